@@ -1,3 +1,4 @@
 pub mod shared
 pub mod HeadLemmas
+pub mod ResponseLemmas
 pub mod TargetLemmas

@@ -3,7 +3,10 @@ pub mod Fields
 pub mod Forms
 pub mod HeadEnds
 pub mod Heads
+pub mod Methods
 pub mod QueryTexts
 pub mod Refusals
 pub mod Requests
+pub mod ResponseParts
+pub mod ResponseTexts
 pub mod Targets

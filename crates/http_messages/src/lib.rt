@@ -1,7 +1,9 @@
-//! What the bytes of an HTTP connection begin with: a request, its head, its fields and the query that it carries.
+//! HTTP messages: the request that the bytes of a connection begin with, its head, its fields and the query that it carries,
+//! and the bytes of a response.
 //!
 //! [`first_request`] says whether the bytes begin with a complete request, with a part of one, or with one that is
-//! refused as it stands. [`query_of`] finds the query that a request carries. Nothing here answers anything.
+//! refused as it stands. [`method_of`] tells methods apart, and [`query_of`] finds the query that a request carries.
+//! [`append_response`] writes a response. What is answered is decided by the crates above.
 #![tactic(auto)]
 
 mod decision;
@@ -10,16 +12,20 @@ mod head;
 mod head_ends;
 mod laws;
 mod limits;
+mod method;
 mod query_text;
 mod refusal;
 mod request;
+mod response;
 mod target;
 
 pub use decision::{Decision, first_request};
 pub use head_ends::{head_end, without_breaks};
 pub use laws::{head_is_the_grammars, limits_law};
 pub use limits::{BODY_LIMIT, DIGIT_LIMIT, FIELD_LIMIT, HEAD_LIMIT, LINE_LIMIT};
+pub use method::{Method, method_of};
 pub use query_text::{QuerySource, QueryText, query_of};
 pub use refusal::Refusal;
 pub use request::Request;
+pub use response::{ResponseHead, append_response};
 pub use target::{QUESTION_MARK, split_target};

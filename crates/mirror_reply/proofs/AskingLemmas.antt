@@ -1,16 +1,15 @@
 -- Sending a request, and hearing a response, call by call.
-use Rattle.std.proofs.Common.{◌≡◌, ◌∙◌, ◌<◌, ◌≤◌, ◌+◌, ◌-◌, ℕ, Bool, true, false, List, [], ◌∷◌, ◌++◌, ap, sym, refl, subst, inl, inr, arith, length, take, drop, append-nil, take-append-drop, take-add, lit<}
-use Rattle.std.specs.Prelude.{Option, Some, None, Result, Ok, Err, ◌⊎◌, suc}
+use Rattle.std.proofs.Common.{◌≡◌, ◌∙◌, ◌<◌, ◌≤◌, ◌+◌, ℕ, true, false, List, [], ◌∷◌, ◌++◌, ap, sym, refl, subst, inl, inr, arith, length, take, drop, append-nil, take-append-drop, take-add, lit<}
+use Rattle.std.specs.Prelude.{Option, Some, None, Result, Ok, Err}
 use Rattle.std.proofs.lemmas.List.{length-drop, take_all}
-use Rattle.mirror_reply.specs.Calls.{Call, broken, bytes_received, bytes_sent, ended, noted, opened, received, sent, unsent}
-use Rattle.mirror_reply.specs.Fetches.{Ends, Fetch, HasAsked, HasFetched, HasStarved, IsBegun, IsOpened, IsSilent, IsWaiting, is_closed, reads}
+use Rattle.mirror_reply.specs.Calls.{Call, broken, bytes_received, ended, noted, opened, received, sent, unsent}
+use Rattle.mirror_reply.specs.Fetches.{Ends, Fetch, HasFetched, IsBegun, IsWaiting}
 use Rattle.mirror_reply.specs.Heads.{unfinished}
-use Rattle.mirror_reply.specs.Replies.{HasReply}
-use Rattle.mirror_reply.specs.Standings.{HasFault, Stands, replied, waits}
+use Rattle.mirror_reply.specs.Standings.{HasFault, Stands, waits}
 use Rattle.mirror_reply.specs.Taken.{HasTaken, Kept, Tells}
-use Rattle.mirror_reply.specs.internal.Asking.{HasSent, HasStuck, IsHearing, IsReady, IsSending}
+use Rattle.mirror_reply.specs.internal.Asking.{HasStuck, IsHearing, IsReady, IsSending}
 use Rattle.mirror_reply.specs.declared.fetch_fault.FetchFault.{FetchFault}
-use Rattle.mirror_reply.specs.declared.fetch_fault.FetchFault.TheVariants.{Memory, Reply, Silent, Unreached}
+use Rattle.mirror_reply.specs.declared.fetch_fault.FetchFault.TheVariants.{Memory, Reply, Silent}
 use Rattle.mirror_reply.specs.declared.limits.TheConstants.{READ_LIMIT}
 use Rattle.mirror_reply.specs.declared.progress.Progress.TheVariants.{Failed, More, Whole}
 use Rattle.mirror_reply.specs.declared.reply_fault.ReplyFault.{ReplyFault}

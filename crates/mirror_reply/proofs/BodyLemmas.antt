@@ -1,10 +1,10 @@
 -- The cases of a body.
-use Rattle.std.proofs.Common.{◌≡◌, ◌∙◌, ◌<◌, ◌≤◌, ◌+◌, ◌-◌, ℕ, Bool, true, false, List, [], ◌∷◌, ◌++◌, ap, sym, refl, subst, inl, inr, arith, length, take, drop, append_assoc, length-append}
-use Rattle.std.specs.Prelude.{if◌then◌else◌, nat_lt, ◌≢◌}
+use Rattle.std.proofs.Common.{◌≡◌, ◌∙◌, ◌<◌, ◌≤◌, ◌+◌, ◌-◌, ℕ, Bool, true, false, List, ◌++◌, ap, sym, refl, subst, inl, inr, arith, length, take, drop, append_assoc, length-append}
+use Rattle.std.specs.Prelude.{nat_lt, ◌≢◌}
 use Rattle.std.specs.Int.{from_be_bytes, w64}
 use Rattle.std.proofs.lemmas.Bool.{cases_lt}
 use Rattle.std.proofs.lemmas.Bool.Decides.{nat_tests}
-use Rattle.std.proofs.lemmas.List.{drop-append-le, drop-drop, drop_at, length-drop, length-take, length-take-le, take-append-drop, take-append-le, take_at, take_all}
+use Rattle.std.proofs.lemmas.List.{drop-append-le, drop-drop, drop_at, length-drop, length-take-le, take-append-drop, take-append-le, take_at}
 use Rattle.mirror_reply.specs.Replies.{IsBody}
 use Rattle.mirror_reply.specs.Standings.{Standing, answer_len, by_body, failed, lacking, replied, waits}
 use Rattle.mirror_reply.specs.declared.reply_fault.ReplyFault.TheVariants.{BadBody, ClosedEarly}

@@ -1,6 +1,6 @@
 -- The head of a response, as httparse's grammar has it, ends with the first empty line.
-use Rattle.std.proofs.Common.{◌≡◌, ◌∙◌, ◌<◌, ◌≤◌, ◌+◌, ◌-◌, ℕ, Bool, true, false, IsTrue, List, [], ◌∷◌, ◌++◌, ap, sym, refl, subst, arith, length, take, append_assoc, length-append}
-use Rattle.std.specs.Prelude.{Option, Some, None, option_map, if◌then◌else◌, ◌&&◌, ◌==◌, nat_lt, zero, suc, All, codes}
+use Rattle.std.proofs.Common.{◌≡◌, ◌∙◌, ◌≤◌, ◌+◌, ℕ, Bool, true, false, IsTrue, List, [], ◌∷◌, ◌++◌, ap, sym, refl, arith, length, append_assoc, length-append}
+use Rattle.std.specs.Prelude.{Option, Some, None, option_map, ◌==◌, suc, All}
 use Rattle.std.specs.List.{flat_map}
 use Rattle.std.proofs.lemmas.Bool.Decides.{nat_tests}
 use Rattle.std.proofs.lemmas.List.Elements.{All-head, All-tail}
@@ -10,8 +10,6 @@ use Rattle.httparse.specs.Pieces.{Stops, is_newline}
 use Rattle.httparse.proofs.PieceLemmas.{Stops_token, print_field-append}
 use Rattle.httparse.proofs.GrammarLemmas.{print_response-append}
 use Rattle.http_messages.specs.HeadEnds.{empty_line, head_length}
-use Rattle.mirror_reply.specs.Heads.{HasHead, head_end}
-use Rattle.mirror_reply.specs.declared.limits.TheConstants.{HEAD_LIMIT}
 
 -- no line feed is among these bytes
 abbrev pub NoFeed : List ℕ → Type 0

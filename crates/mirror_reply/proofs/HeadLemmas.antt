@@ -1,6 +1,6 @@
 -- What some bytes begin with is one thing, and later bytes don't change it; and what httparse answers.
-use Rattle.std.proofs.Common.{◌≡◌, ◌∙◌, ◌<◌, ◌≤◌, ◌+◌, ◌-◌, ℕ, Bool, true, false, List, [], ◌∷◌, ◌++◌, ap, sym, refl, subst, inl, inr, arith, length, take, drop, append_assoc, append-nil, length-append}
-use Rattle.std.specs.Prelude.{Option, Some, None, Result, Ok, Err, ◌≢◌, zero, suc, map, ◌⊎◌}
+use Rattle.std.proofs.Common.{◌≡◌, ◌∙◌, ◌≤◌, ◌-◌, ℕ, true, false, List, [], ◌∷◌, ◌++◌, ap, sym, refl, inl, inr, arith, length, take, drop, append-nil, length-append}
+use Rattle.std.specs.Prelude.{Some, Result, Ok, Err, ◌≢◌, zero, suc}
 use Rattle.std.proofs.lemmas.Bool.{cases_lt}
 use Rattle.std.proofs.lemmas.List.{drop_all, length-map, length-take, take-append-drop, take-append-le, take_all, take_at}
 use Rattle.httparse.specs.declared.Error.{Error}
@@ -15,7 +15,7 @@ use Rattle.httparse.proofs.GrammarLemmas.{response_unique, ReadsResponse-append,
 use Rattle.http_messages.specs.HeadEnds.{begins_with_break, head_length}
 use Rattle.http_messages.proofs.shared.HeadEndLemmas.{head_length-append, head_length-fits}
 use Rattle.mirror_reply.specs.Heads.{Beginning, BeginsWith, HasHead, HasNoHead, head, head_end, no_head, unfinished}
-use Rattle.mirror_reply.specs.internal.Heads.{HasNone, IsHead, IsReadAs}
+use Rattle.mirror_reply.specs.internal.Heads.{HasNone, IsReadAs}
 use Rattle.mirror_reply.specs.declared.limits.TheConstants.{FIELD_LIMIT, HEAD_LIMIT}
 use Rattle.mirror_reply.proofs.EndLemmas.{head-ends}
 

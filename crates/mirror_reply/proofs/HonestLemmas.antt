@@ -1,10 +1,10 @@
 -- The response of a mirror, as it writes it, is a reply.
-use Rattle.std.proofs.Common.{◌≡◌, ◌∙◌, ◌<◌, ◌≤◌, ◌+◌, ◌-◌, ◌/◌, ◌%◌, ◌^◌, ℕ, Bool, true, false, IsTrue, List, [], ◌∷◌, ◌++◌, ap, sym, refl, subst, arith, length, reverse, append_assoc, append-nil, length-append, ◌*◌, lit<, lit≤}
-use Rattle.std.specs.Prelude.{Option, Some, None, if◌then◌else◌, ◌&&◌, ◌==◌, nat_lt, nat_le, All, codes, option_map, map, slice_index}
+use Rattle.std.proofs.Common.{◌≡◌, ◌∙◌, ◌<◌, ◌≤◌, ◌+◌, ◌/◌, ◌%◌, ◌^◌, ℕ, Bool, true, false, IsTrue, List, [], ◌∷◌, ◌++◌, ap, sym, refl, arith, length, reverse, append_assoc, append-nil, length-append, ◌*◌, lit<, lit≤}
+use Rattle.std.specs.Prelude.{Some, None, if◌then◌else◌, nat_lt, nat_le, All, codes, slice_index}
 use Rattle.std.specs.List.{flat_map, list_all}
 use Rattle.std.specs.Fmt.{decimal, digits}
-use Rattle.std.specs.Int.{from_be_bytes, to_be_bytes, w64}
-use Rattle.std.specs.Str.Parse.{AllDigits, digits_value}
+use Rattle.std.specs.Int.{to_be_bytes, w64}
+use Rattle.std.specs.Str.Parse.{AllDigits}
 use Rattle.std.specs.Char.{is_ascii_digit, digit_value}
 use Rattle.std.proofs.lemmas.Bool.Decides.{nat_tests}
 use Rattle.std.proofs.lemmas.Fmt.{decimal_is_IsNumeral, length-decimal-le}
@@ -13,14 +13,14 @@ use Rattle.std.proofs.lemmas.List.Sums.{AllPass-from_list_all, list_all-from_All
 use Rattle.std.proofs.lemmas.Nat.{from_be_bytes-to_be_bytes_8}
 use Rattle.hex.specs.Hex.{encode_lower, encode_with, lower_digits}
 use Rattle.hex.proofs.HexLemmas.{length-encode_with}
-use Rattle.httparse.specs.Grammar.{AllPass, Field, IsField, IsResponseHead, IsToken, LineEnd, crlf, is_ows, is_token_byte, is_value_byte, print_end, print_field, print_response, ResponseHead, skip_ows, status_code, trim_ows}
+use Rattle.httparse.specs.Grammar.{AllPass, Field, IsField, IsResponseHead, IsToken, crlf, is_ows, is_token_byte, is_value_byte, print_field, print_response, ResponseHead, skip_ows, trim_ows}
 use Rattle.httparse.proofs.TrimLemmas.{AllPass-reverse, trim_ows_space}
 use Rattle.http_messages.specs.Fields.{is_length}
-use Rattle.osm_gate.specs.ResponseTexts.{HeadParts, close_if, field_line, head_text, line_end, response_text}
+use Rattle.http_messages.specs.ResponseTexts.{HeadParts, close_if, head_text, line_end, response_text}
 use Rattle.osm_gate.specs.Responses.{checked_body, ok_response}
-use Rattle.mirror_reply.specs.Heads.{HasHead, fields_of}
+use Rattle.mirror_reply.specs.Heads.{fields_of}
 use Rattle.mirror_reply.specs.Lengths.{one_length, told_length}
-use Rattle.mirror_reply.specs.Replies.{HasReply, IsBody}
+use Rattle.mirror_reply.specs.Replies.{HasReply}
 
 -- ---- digits
 
@@ -87,7 +87,7 @@ honest_head closes root size = record {
 }
 
 abbrev parts_of : Bool → List ℕ → HeadParts
-parts_of closes root = record { status = 200; is_binary = true; root = Some root; allow = None; closes = closes }
+parts_of closes root = record { status = 200; content_type = codes "application/octet-stream"; root = Some root; allow = None; closes = closes }
 
 regroup : (g f m s d n r c e : List ℕ) → (((((g ++ f) ++ (m ++ (s ++ (d ++ e)))) ++ (n ++ (s ++ (r ++ e)))) ++ []) ++ c) ++ e
     ≡ g ++ ((f ++ (((m ++ (s ++ d)) ++ e) ++ (((n ++ (s ++ r)) ++ e) ++ c))) ++ e)

@@ -1,22 +1,21 @@
 -- What the code knows from a head, as bytes come.
-use Rattle.std.proofs.Common.{◌≡◌, ◌∙◌, ◌<◌, ◌≤◌, ◌+◌, ◌-◌, ◌^◌, ℕ, Bool, true, false, List, [], ◌∷◌, ◌++◌, ap, sym, refl, subst, inl, inr, arith, length, take, drop, append_assoc, append-nil, length-append}
-use Rattle.std.specs.Prelude.{Option, Some, None, ◌≢◌, ◌⊎◌, ◌==◌, if◌then◌else◌, min}
+use Rattle.std.proofs.Common.{◌≡◌, ◌∙◌, ◌<◌, ◌≤◌, ◌+◌, ◌-◌, ℕ, Bool, true, false, List, [], ◌++◌, ap, sym, refl, subst, inl, inr, arith, length, take, drop, append_assoc, append-nil, length-append}
+use Rattle.std.specs.Prelude.{Option, Some, None, ◌≢◌, ◌⊎◌, ◌==◌, min}
 use Rattle.std.proofs.lemmas.Bool.{cases_lt}
 use Rattle.std.proofs.lemmas.Bool.Decides.{nat_tests}
-use Rattle.std.proofs.lemmas.List.{drop-append-le, drop_all, drop_at, length-drop, length-take, take-append-drop, take-append-le, take_all, take_at, length-take-le, drop-drop}
-use Rattle.httparse.specs.Grammar.{ReadsResponse, ResponseHead, print_response, status_code}
+use Rattle.std.proofs.lemmas.List.{drop-append-le, drop_all, drop_at, length-drop, length-take, take-append-drop, take_all, take_at, length-take-le}
+use Rattle.httparse.specs.Grammar.{ResponseHead, print_response, status_code}
 use Rattle.httparse.proofs.GrammarLemmas.{ReadsResponse-append}
 use Rattle.http_messages.specs.HeadEnds.{head_length}
 use Rattle.mirror_reply.specs.Heads.{Beginning, BeginsWith, HasHead, fields_of, head, head_end, no_head, unfinished}
 use Rattle.mirror_reply.specs.Lengths.{told_length}
-use Rattle.mirror_reply.specs.Standings.{HasFault, HasText, Standing, Stands, by_body, by_length, by_status, failed, lacking, replied, standing, text_after, text_len, text_of, waits}
+use Rattle.mirror_reply.specs.Standings.{HasText, Stands, by_body, by_length, by_status, failed, lacking, replied, standing, text_after, text_len, waits}
 use Rattle.mirror_reply.specs.Taken.{IsSettled}
 use Rattle.mirror_reply.specs.internal.Heads.{HasNone, IsHead}
-use Rattle.mirror_reply.specs.internal.Stages.{HasBodyAt, HasStart, HasTextAt, IsStage, Keeps, Pushes, Says, SaysOf}
-use Rattle.mirror_reply.specs.declared.limits.TheConstants.{FIELD_LIMIT, HEAD_LIMIT, PREFIX_SIZE}
-use Rattle.mirror_reply.specs.declared.progress.Progress.{Progress}
+use Rattle.mirror_reply.specs.internal.Stages.{HasBodyAt, HasStart, HasTextAt, IsStage, Keeps, Pushes}
+use Rattle.mirror_reply.specs.declared.limits.TheConstants.{HEAD_LIMIT}
 use Rattle.mirror_reply.specs.declared.reply_fault.ReplyFault.{ReplyFault}
-use Rattle.mirror_reply.specs.declared.reply_fault.ReplyFault.TheVariants.{BadBody, BadHead, BadLength, BadStatus, ClosedEarly, TooLong}
+use Rattle.mirror_reply.specs.declared.reply_fault.ReplyFault.TheVariants.{BadBody, BadHead, BadLength, BadStatus, TooLong}
 use Rattle.mirror_reply.specs.declared.stage.Stage.{Stage}
 use Rattle.mirror_reply.specs.declared.stage.Stage.TheVariants as stage
 use Rattle.mirror_reply.proofs.BodyLemmas.{body-cases, body-decided, body-small}

@@ -1,15 +1,15 @@
 -- Some bytes say one thing, and later bytes don't change what is decided.
-use Rattle.std.proofs.Common.{◌≡◌, ◌∙◌, ◌<◌, ◌≤◌, ◌+◌, ◌-◌, ℕ, Bool, true, false, List, [], ◌∷◌, ◌++◌, ap, sym, refl, subst, inl, inr, arith, length, take, drop, length-append}
-use Rattle.std.specs.Prelude.{Option, Some, None, if◌then◌else◌, nat_lt, ◌≢◌, ◌==◌, ◌⊎◌}
+use Rattle.std.proofs.Common.{◌≡◌, ◌∙◌, ◌<◌, ◌≤◌, ℕ, Bool, true, false, List, ◌++◌, ap, sym, refl, subst, inl, inr, arith, length, length-append}
+use Rattle.std.specs.Prelude.{Option, Some, None, nat_lt, ◌≢◌, ◌==◌, ◌⊎◌}
 use Rattle.std.proofs.lemmas.Bool.{cases_lt}
 use Rattle.std.proofs.lemmas.Bool.Decides.{nat_tests}
 use Rattle.std.proofs.lemmas.List.{take-append-le}
-use Rattle.httparse.specs.Grammar.{ResponseHead, status_code}
+use Rattle.httparse.specs.Grammar.{status_code}
 use Rattle.mirror_reply.specs.Heads.{Beginning, BeginsWith, fields_of, head, no_head, unfinished}
 use Rattle.mirror_reply.specs.Lengths.{told_length}
-use Rattle.mirror_reply.specs.Standings.{HasFault, HasText, Standing, Stands, by_body, by_length, by_status, failed, lacking, replied, standing, text_after, text_len, text_of, waits}
+use Rattle.mirror_reply.specs.Standings.{HasText, Standing, Stands, by_body, by_length, by_status, failed, lacking, standing, text_after, text_len, text_of, waits}
 use Rattle.mirror_reply.specs.Taken.{IsSettled}
-use Rattle.mirror_reply.specs.declared.reply_fault.ReplyFault.TheVariants.{BadLength, BadStatus, TooLong}
+use Rattle.mirror_reply.specs.declared.reply_fault.ReplyFault.TheVariants.{BadStatus, TooLong}
 use Rattle.mirror_reply.proofs.HeadLemmas.{HasHead-append, begins-unique, no_head-append}
 use Rattle.mirror_reply.proofs.BodyLemmas.{body-append}
 

@@ -1,13 +1,13 @@
 -- What is said of the bytes kept is true of all bytes received.
-use Rattle.std.proofs.Common.{◌≡◌, ◌∙◌, ℕ, Bool, true, false, List, [], ◌∷◌, ◌++◌, ap, sym, refl, subst, inl, inr, append_assoc, append-nil}
-use Rattle.std.specs.Prelude.{◌≢◌, ◌⊎◌}
+use Rattle.std.proofs.Common.{◌≡◌, ◌∙◌, ℕ, Bool, false, List, [], ◌++◌, ap, sym, refl, subst, inl, inr, append_assoc, append-nil}
+use Rattle.std.specs.Prelude.{◌≢◌}
 use Rattle.mirror_reply.specs.Replies.{HasReply}
-use Rattle.mirror_reply.specs.Standings.{HasFault, HasText, Standing, Stands, failed, replied, waits}
+use Rattle.mirror_reply.specs.Standings.{HasText, Standing, Stands, failed, replied, waits}
 use Rattle.mirror_reply.specs.Taken.{HasTaken, IsSettled, Kept, Tells}
 use Rattle.mirror_reply.specs.internal.Stages.{Keeps, Says, SaysOf}
 use Rattle.mirror_reply.specs.declared.progress.Progress.{Progress}
-use Rattle.mirror_reply.specs.declared.progress.Progress.TheVariants.{Failed, More, Whole}
-use Rattle.mirror_reply.proofs.SpelledLemmas.{reply-spelled, reply-stands}
+use Rattle.mirror_reply.specs.declared.progress.Progress.TheVariants.{More, Whole}
+use Rattle.mirror_reply.proofs.shared.SpelledLemmas.{reply-spelled, reply-stands}
 use Rattle.mirror_reply.proofs.StandingLemmas.{settled-append, stands-unique, text-settled}
 
 says-tells : (limit : ℕ) (closed : Bool) (received : List ℕ) (s : Standing) (p : Progress) → Says s p → Stands limit closed received s → Tells limit closed received p

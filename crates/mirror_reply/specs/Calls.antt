@@ -1,6 +1,6 @@
 -- What was called at a dial, and how it ended.
 -- Source: this project.
-use Rattle.std.specs.Prelude.{◌≡◌, ℕ, ◌<◌, ◌≤◌, Bool, true, false, List, [], ◌∷◌, ◌++◌, Option, Some, None, option_map, length, take}
+use Rattle.std.specs.Prelude.{◌≡◌, ℕ, ◌<◌, ◌≤◌, Bool, List, [], ◌∷◌, ◌++◌, Option, Some, None, option_map, length, take}
 use Rattle.mirror_reply.specs.declared.dial.Receipt.{Receipt}
 use Rattle.mirror_reply.specs.declared.dial.Receipt.TheVariants.{Broken, Ended, Got}
 

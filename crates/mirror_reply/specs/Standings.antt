@@ -3,7 +3,7 @@
 -- Source: this project.
 use Rattle.std.specs.Prelude.{◌≡◌, ℕ, ◌+◌, ◌-◌, Bool, List, [], length, take, drop, min, Option, Some, None, if◌then◌else◌, ◌==◌, nat_lt}
 use Rattle.std.specs.Int.{from_be_bytes, w64}
-use Rattle.httparse.specs.Grammar.{ResponseHead, status_code}
+use Rattle.httparse.specs.Grammar.{status_code}
 use Rattle.mirror_reply.specs.Heads.{Beginning, BeginsWith, fields_of, head, no_head, unfinished}
 use Rattle.mirror_reply.specs.Lengths.{told_length}
 use Rattle.mirror_reply.specs.declared.limits.TheConstants.{PREFIX_SIZE, ROOT_SIZE, TEXT_LIMIT}

@@ -1,7 +1,7 @@
 //! Laws of replies and of the limits.
 
 ghost use Rattle.std.specs.Prelude.{◌≡◌, ◌↔◌, ◌++◌, ◌+◌, ◌≤◌, ◌<◌, ◌^◌, ℕ, All, Bool, List, false, length, true};
-ghost use Rattle.osm_gate.specs.ResponseTexts.{response_text};
+ghost use Rattle.http_messages.specs.ResponseTexts.{response_text};
 ghost use Rattle.osm_gate.specs.Responses.{checked_body, ok_response};
 ghost use Rattle.mirror_reply.specs.Replies.{HasReply};
 ghost use Rattle.mirror_reply.specs.Standings.{HasFault, Standing, Stands, replied};

@@ -1,10 +1,10 @@
 -- What the outcome of an evaluation over the nodes of a proof says of a publication.
-use Rattle.std.proofs.Common.{◌≡◌, ◌⊎◌, inl, inr, ℕ, List, [], Some, Result, Ok, Err, IfOk, sym, subst, ◌∙◌}
+use Rattle.std.proofs.Common.{true, ◌≡◌, ◌⊎◌, inl, inr, ℕ, List, [], Some, Result, Ok, Err, IfOk, refl, sym, subst, ◌∙◌}
 use Rattle.std.specs.List.{Contains}
 use Rattle.tree_node.specs.Outcomes.{Clash, Outcome, RefusedFor}
 use Rattle.tree_node.specs.Bags.{BagHolds}
 use Rattle.tree_node.specs.Parts.{HaveNode}
-use Rattle.tree_node.specs.Shelves.{IsEmptySet, SameNodes}
+use Rattle.tree_node.specs.Shelves.{IsEmptySet, SameNodes, Stays}
 use Rattle.tree_node.specs.declared.bag.Bag.{Bag}
 use Rattle.tree_node.specs.declared.part.Part.{Part}
 use Rattle.tree_node.proofs.shared.OutcomeLaws.{Nodes, just_needed, uses}
@@ -100,10 +100,10 @@ module _ (p : Publication) (statements : Statements) (answer : List ℕ) (nodes 
     ]
 
 -- a bag of parts holds just their nodes
-pub listed_in : (parts : List Part) (before after : Bag) → SameNodes (HaveNode parts) (BagHolds before) → SameNodes (BagHolds before) (BagHolds after) → SameNodes (BagHolds after) (Contains (nodes_of parts))
+pub listed_in : (parts : List Part) (before after : Bag) → SameNodes (HaveNode parts) (BagHolds before) → Stays true (BagHolds before) (BagHolds after) → SameNodes (BagHolds after) (Contains (nodes_of parts))
 listed_in parts before after holds stays x = (
   (λ stands. (stays x).1 ((holds x).1 (among_parts parts x stands))),
-  (λ is_held. node_among parts x ((holds x).0 ((stays x).0 is_held))),
+  (λ is_held. node_among parts x ((holds x).0 ((stays x).0 refl is_held))),
 )
 
 -- no refused evaluation is a verdict on the form of a proof

@@ -5,7 +5,7 @@ ghost use Rattle.std.specs.FinMap.{empty};
 ghost use Rattle.std.specs.Prelude.{◌≡◌, ◌↔◌, ℕ, List, Option, Some, Ok, Err};
 ghost use Rattle.opl_codec.specs.declared.change.Change.{Change};
 ghost use Rattle.http_messages.specs.Requests.{Asked};
-ghost use Rattle.osm_gate.specs.ResponseTexts.{Response};
+ghost use Rattle.http_messages.specs.ResponseTexts.{Response};
 ghost use Rattle.osm_gate.specs.Responses.{IsResponse, IsResponseWithin};
 ghost use Rattle.osm_keys.specs.Publications.{Publication, root_of};
 ghost use Rattle.osm_index.specs.Snapshots.{HoldsPublication};

@@ -1,5 +1,5 @@
 -- What is fetched, from the calls that are made.
-use Rattle.std.proofs.Common.{◌≡◌, ◌≢◌, ◌⊎◌, ◌∙◌, ℕ, false, List, [], ◌∷◌, ◌++◌, Option, None, Some, Result, Ok, Err, IfErr, IsErrAnd, ap, append-nil, arith, inl, inr, refl, subst, sym}
+use Rattle.std.proofs.Common.{◌≡◌, ◌≢◌, ◌⊎◌, ◌∙◌, ℕ, List, [], ◌∷◌, ◌++◌, Option, None, Some, Result, Ok, Err, IfErr, IsErrAnd, ap, append-nil, inl, inr, refl, subst, sym}
 use Rattle.std.proofs.lemmas.List.{append_cancel_right}
 use Rattle.std.specs.declared.alloc.Global.{Global}
 use Rattle.std.specs.declared.vec.Vec.{Vec}
@@ -11,15 +11,13 @@ use Rattle.ql_syntax.specs.declared.fault.QlFault.{QlFault}
 use Rattle.osm_check.specs.Verdicts.{IsReadable}
 use Rattle.mirror_reply.specs.Calls.{Call, broken, bytes_received, ended, opened, received, sent, unsent}
 use Rattle.mirror_reply.specs.Fetches.{Ends, Fetch, HasAsked, HasFetched, HasStopped, IsSilent, is_closed}
-use Rattle.mirror_reply.specs.Heads.{unfinished}
 use Rattle.mirror_reply.specs.Replies.{HasReply}
 use Rattle.mirror_reply.specs.Requests.{request_text}
-use Rattle.mirror_reply.specs.Standings.{HasFault as HasReplyFault, Stands, replied, waits}
+use Rattle.mirror_reply.specs.Standings.{HasFault as HasReplyFault}
 use Rattle.mirror_reply.specs.Taken.{HasTaken, Kept}
 use Rattle.mirror_reply.specs.declared.fetch_fault.FetchFault.{FetchFault}
 use Rattle.mirror_reply.specs.declared.fetch_fault.FetchFault.TheVariants as fetches
-use Rattle.mirror_reply.proofs.SpelledLemmas.{reply-iff, reply-no_fault}
-use Rattle.mirror_reply.proofs.StandingLemmas.{stands-unique}
+use Rattle.mirror_reply.proofs.shared.SpelledLemmas.{none_replied, reply-no_fault, waiting_holds_none}
 use Rattle.mirror_answer.specs.Showing.{IsFaultOf, IsRightly, ShowsText}
 use Rattle.mirror_answer.specs.declared.mirror_fault.MirrorFault.{MirrorFault}
 use Rattle.mirror_answer.specs.declared.mirror_fault.MirrorFault.TheVariants.{OtherRoot, Proof, Reply, Silent, Unreached, Work}
@@ -82,16 +80,6 @@ unread f fault (inl is) = subst (λ (q : QlFault). Explains f [] (fault_of_query
 unread f fault (inr why) = unread_cause f fault fault.cause why
 
 -- ---- no reply
-
--- bytes that wait for more hold none
-waiting_holds_none : (limit : ℕ) (bytes a b c : List ℕ) → Stands limit false bytes waits → HasReply limit bytes a b c → ⊥
-waiting_holds_none limit bytes a b c stands reply =
-    let same = stands-unique limit false bytes waits (replied a b c) stands ((reply-iff limit false bytes a b c).1 reply) in
-    cc same
-
--- no bytes hold none
-pub none_replied : (limit : ℕ) (a b c : List ℕ) → HasReply limit [] a b c → ⊥
-none_replied limit a b c reply = waiting_holds_none limit [] a b c (unfinished, (refl, omega arith), refl) reply
 
 pub unfetched : (f : Fetching) (kept : Kept) → kept.limit ≡ f.limit → IsReadable f.wanted.query → (calls : List Call) (fault : FetchFault)
     → Ends (record { request = request_text f.host f.wanted.query; kept = kept }) calls (Err fault) → Explains f calls (fault_of_fetch fault)

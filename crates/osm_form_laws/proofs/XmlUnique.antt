@@ -5,7 +5,6 @@ use Rattle.std.specs.List.{AllByRecursion}
 use Rattle.std.specs.Prelude.{encode_utf8}
 use Rattle.std.specs.Str.Parse.{digits_value}
 use Rattle.std.proofs.lemmas.Str.{encode_ascii, encode_same}
-use lib.Utf8.{encode}
 use Rattle.osm_model.proofs.shared.Digits.{same_front}
 use Rattle.osm_form_laws.specs.XmlDocuments.{Ampersand, Attribute, Content, GreaterThan, HasTags, IsName, IsWritten, Itself, LessThan, Numbered, Quote, SpellsAttribute, SpellsAttributes, SpellsContent, SpellsTree, SpellsValue, Tree, Written, child, element, line_end, meaning, nothing, one_tag, spelling, with_tags}
 

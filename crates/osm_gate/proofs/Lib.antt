@@ -5,7 +5,6 @@ pub mod NoMemory
 pub mod OneResponse
 pub mod QueryResponses
 pub mod RespondingLemmas
-pub mod ResponseLemmas
 pub mod RouteLemmas
 pub mod ServeLemmas
 pub mod ShortRests

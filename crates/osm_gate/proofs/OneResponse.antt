@@ -12,14 +12,15 @@ use Rattle.ql_syntax.proofs.shared.QueryLaws.{one_fault, one_query, reads_or_not
 use Rattle.osm_gate.specs.Connections.{RespondsToOneWithin, RespondsWithin}
 use Rattle.http_messages.specs.Forms.{query_of}
 use Rattle.http_messages.specs.Requests.{Asked, Request, asked, refused}
-use Rattle.osm_gate.specs.ResponseTexts.{Response, response_text}
-use Rattle.osm_gate.specs.Responses.{ByMethodWithin, ByQueryWithin, ByRouteWithin, GivesAt, GivesWithin, IsResponseWithin, TellsFault, checked_body, ends, fault_text, ok_response, method_of, refusal}
+use Rattle.http_messages.specs.ResponseTexts.{Response, response_text}
+use Rattle.osm_gate.specs.Responses.{ByMethodWithin, ByQueryWithin, ByRouteWithin, GivesAt, GivesWithin, IsResponseWithin, TellsFault, checked_body, ends, fault_text, ok_response, refusal}
+use Rattle.http_messages.specs.Methods.{method_of}
 use Rattle.osm_gate.specs.Routes.{route_of}
 use Rattle.http_messages.specs.Targets.{path_of}
 use Rattle.osm_gate.specs.declared.endpoint.Endpoint.{Endpoint}
 use Rattle.osm_gate.specs.declared.endpoint.Endpoint.TheVariants.{Answer, AnswerWithProof}
-use Rattle.osm_gate.specs.declared.method.Method.{Method}
-use Rattle.osm_gate.specs.declared.method.Method.TheVariants.{Get, Other, Post}
+use Rattle.http_messages.specs.declared.method.Method.{Method}
+use Rattle.http_messages.specs.declared.method.Method.TheVariants.{Get, Other, Post}
 use Rattle.http_messages.specs.declared.query_text.QuerySource.TheVariants.{Body, Target}
 use Rattle.osm_gate.specs.declared.reply.Reply.{Reply}
 use Rattle.osm_gate.specs.declared.route.Route.{Route}

@@ -12,7 +12,7 @@ use Rattle.ql_syntax.specs.Queries.{HasFault, Reads}
 use Rattle.ql_syntax.specs.Statements.{Statements}
 use Rattle.ql_syntax.specs.declared.fault.QlFault.{QlFault}
 use Rattle.ql_syntax.proofs.shared.QueryLaws.{one_of_both}
-use Rattle.osm_gate.specs.ResponseTexts.{Response, response_text}
+use Rattle.http_messages.specs.ResponseTexts.{Response, response_text}
 use Rattle.osm_gate.specs.Responses.{ByQueryWithin, GivesAt, GivesWithin, checked_body, fault_text, ok_response, refusal, too_much_response}
 use Rattle.osm_gate.specs.declared.endpoint.Endpoint.{Endpoint}
 use Rattle.osm_gate.specs.declared.endpoint.Endpoint.TheVariants.{Answer, AnswerWithProof}

@@ -5,7 +5,7 @@ use Rattle.std.specs.Prelude.{◌≡◌, ℕ, Bool, true, false, List, [], ◌�
 use Rattle.osm_keys.specs.Publications.{Publication}
 use Rattle.http_messages.specs.HeadEnds.{skip_breaks}
 use Rattle.http_messages.specs.Requests.{Decided, Request, asked, first_request, refused}
-use Rattle.osm_gate.specs.ResponseTexts.{Response, response_text}
+use Rattle.http_messages.specs.ResponseTexts.{Response, response_text}
 use Rattle.osm_gate.specs.Responses.{IsResponseWithin, ends, refused_response}
 
 -- what is left of a connection: whether it is closed, and the bytes after the last complete request

@@ -1,5 +1,4 @@
 pub mod Connections
-pub mod ResponseTexts
 pub mod Responses
 pub mod Routes
 pub mod Serving

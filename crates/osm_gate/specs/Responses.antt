@@ -16,15 +16,16 @@ use Rattle.ql_syntax.specs.Refusals.{code_text}
 use Rattle.ql_syntax.specs.Statements.{Statements}
 use Rattle.ql_syntax.specs.declared.fault.QlFault.{QlFault}
 use Rattle.http_messages.specs.Forms.{query_of}
+use Rattle.http_messages.specs.Methods.{method_of}
 use Rattle.http_messages.specs.Refusals.{refusal_status, refusal_text}
 use Rattle.http_messages.specs.Requests.{Asked}
+use Rattle.http_messages.specs.ResponseTexts.{Response}
 use Rattle.http_messages.specs.Targets.{path_of}
-use Rattle.osm_gate.specs.ResponseTexts.{Response}
 use Rattle.osm_gate.specs.Routes.{route_of}
 use Rattle.osm_gate.specs.declared.endpoint.Endpoint.{Endpoint}
 use Rattle.osm_gate.specs.declared.endpoint.Endpoint.TheVariants.{Answer, AnswerWithProof}
-use Rattle.osm_gate.specs.declared.method.Method.{Method}
-use Rattle.osm_gate.specs.declared.method.Method.TheVariants.{Get, Other, Post}
+use Rattle.http_messages.specs.declared.method.Method.{Method}
+use Rattle.http_messages.specs.declared.method.Method.TheVariants.{Get, Other, Post}
 use Rattle.http_messages.specs.declared.query_text.QuerySource.TheVariants.{Body, Target}
 use Rattle.http_messages.specs.declared.refusal.Refusal.{Refusal}
 use Rattle.osm_gate.specs.declared.reply.Reply.{Reply}
@@ -33,16 +34,20 @@ use Rattle.osm_gate.specs.declared.route.Route.TheVariants.{Query, Root}
 
 -- ---- kinds of responses
 
+-- of a body of bytes, and of a text
+abbrev pub content_type : Bool → List ℕ
+content_type is_binary = if is_binary then codes "application/octet-stream" else codes "text/plain; charset=utf-8"
+
 -- a refusal says why in its body
 abbrev pub refusal : Bool → ℕ → List ℕ → Response
 refusal closes status text = record {
-  head = record { status = status; is_binary = false; root = None; allow = None; closes = closes };
+  head = record { status = status; content_type = content_type false; root = None; allow = None; closes = closes };
   body = text ++ line_feed ∷ [];
 }
 
 abbrev pub not_allowed_response : Bool → List ℕ → Response
 not_allowed_response closes methods = record {
-  head = record { status = 405; is_binary = false; root = None; allow = Some methods; closes = closes };
+  head = record { status = 405; content_type = content_type false; root = None; allow = Some methods; closes = closes };
   body = codes "method not allowed" ++ line_feed ∷ [];
 }
 
@@ -53,7 +58,7 @@ too_much_response closes = refusal closes 503 (codes "too much work")
 -- what was asked for, under this root
 abbrev pub ok_response : Bool → List ℕ → Bool → List ℕ → Response
 ok_response closes root is_binary body = record {
-  head = record { status = 200; is_binary = is_binary; root = Some root; allow = None; closes = closes };
+  head = record { status = 200; content_type = content_type is_binary; root = Some root; allow = None; closes = closes };
   body = body;
 }
 
@@ -87,7 +92,8 @@ TellsTooMuch most closes p query r =
     (statements : Statements) × Reads query statements × IsTooMuch (IsWorkOf (form_text Opl) p query) most
     × (r ≡ too_much_response closes)
 
--- the same where there may be a budget: what is asked for where the query's work is within it, and else that it is too much
+-- as `GivesAt`, but each query may have a budget. Without a budget the response gives what was asked for. With one it gives
+-- that if the query's work is within the budget; otherwise it says that the query is too much work
 abbrev pub GivesWithin : Option ℕ → Endpoint → Bool → Publication → List ℕ → Response → Type 0
 GivesWithin None endpoint closes p query r = GivesAt endpoint closes p query r
 GivesWithin (Some most) endpoint closes p query r =
@@ -100,9 +106,6 @@ ByQueryWithin most reply p (Some query) r =
     TellsFault reply.closes query r ⊎ GivesWithin most reply.endpoint reply.closes p query r
 
 -- ---- methods and routes
-
-abbrev pub method_of : List ℕ → Method
-method_of method = if bytes_eq method (codes "GET") then Get else (if bytes_eq method (codes "POST") then Post else Other)
 
 abbrev pub ByMethodWithin : Option ℕ → Reply → Publication → Asked → Method → Response → Type 0
 ByMethodWithin most reply p a Get r = ByQueryWithin most reply p (query_of Target a) r

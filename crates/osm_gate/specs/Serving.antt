@@ -5,7 +5,7 @@ use Rattle.std.specs.Io.KnownBytes.{Appends, Consumes, IsAtEnd}
 use Rattle.std.specs.List.{All, concat}
 use Rattle.osm_keys.specs.Publications.{Publication}
 use Rattle.osm_gate.specs.Connections.{RespondsTo, requests_in}
-use Rattle.osm_gate.specs.ResponseTexts.{response_text}
+use Rattle.http_messages.specs.ResponseTexts.{response_text}
 use Rattle.osm_gate.specs.Responses.{refusal}
 use Rattle.byte_io.specs.Written.{AppendsFront}
 use Rattle.osm_gate.specs.declared.gate_fault.GateFault.{GateFault}

@@ -10,7 +10,6 @@ mod gate;
 mod gate_fault;
 mod laws;
 mod limits;
-mod method;
 mod query_response;
 mod reply;
 mod requests;

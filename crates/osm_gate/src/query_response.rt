@@ -4,7 +4,7 @@ ghost use Rattle.std.specs.Prelude.{◌≡◌, ◌++◌, IfOk, OnOk, Some, false
 ghost use Rattle.std.specs.String.{string_bytes};
 ghost use Rattle.osm_keys.specs.Publications.{Publication};
 ghost use Rattle.osm_index.specs.Snapshots.{HoldsPublication};
-ghost use Rattle.osm_gate.specs.ResponseTexts.{response_text};
+ghost use Rattle.http_messages.specs.ResponseTexts.{response_text};
 ghost use Rattle.osm_gate.specs.Responses.{ByQueryWithin, checked_body, fault_text, ok_response};
 ghost use Rattle.osm_gate.specs.internal.Adding.{AddsFault, AddsResponse};
 

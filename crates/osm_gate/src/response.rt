@@ -1,32 +1,16 @@
-//! Responses as they are written.
+//! The responses that a gate gives.
 
-ghost use Rattle.std.specs.Prelude.{◌≡◌, ◌++◌, IfOk, IfSome, OnOk, codes, length, option_map};
-ghost use Rattle.std.specs.Fmt.{decimal};
-ghost use Rattle.std.specs.String.{string_bytes};
-ghost use Rattle.hex.specs.Hex.{encode_lower};
-ghost use Rattle.http.specs.StatusCode.{status_text};
-ghost use Rattle.osm_gate.specs.ResponseTexts.{close_if, content_type, field_if, field_line, head_text, line_end, response_text};
-ghost use Rattle.osm_gate.specs.Responses.{ok_response, not_allowed_response, refusal};
-ghost use Rattle.osm_gate.specs.internal.Adding.{body_of, parts_of, response_of};
+ghost use Rattle.std.specs.Prelude.{◌≡◌, ◌++◌, OnOk};
+ghost use Rattle.http_messages.specs.ResponseParts.{body_of};
+ghost use Rattle.http_messages.specs.ResponseTexts.{response_text};
+ghost use Rattle.osm_gate.specs.Responses.{content_type, not_allowed_response, ok_response, refusal};
 
 use http::StatusCode;
+use http_messages::{ResponseHead, append_response};
 use std::alloc::{AllocError, Global};
 use tree_node::Digest;
 
-/// What the head of a response says, but for the length of the body.
-#[derive(Clone, Copy)]
-pub(crate) struct ResponseHead<'a> {
-    pub(crate) status: StatusCode,
-    /// The body is bytes, and not text.
-    pub(crate) is_binary: bool,
-    pub(crate) root: Option<&'a Digest>,
-    /// The methods that are allowed.
-    pub(crate) allow: Option<&'a str>,
-    /// The connection ends after this response.
-    pub(crate) closes: bool,
-}
-
-/// Appends a response of status 200.
+/// Appends a response of status 200. Out of memory the output stays as it was.
 pub(crate) fn write_ok(
     alloc: Global,
     output: &mut Vec<u8>,
@@ -40,15 +24,15 @@ pub(crate) fn write_ok(
 {
     let head = ResponseHead {
         status: StatusCode::OK,
-        is_binary,
-        root: Some(root),
+        content_type: content_type(is_binary),
+        root: Some(&root.0),
         allow: None,
         closes,
     };
-    write_response(alloc, output, &head, body)
+    append_response(alloc, output, &head, body)
 }
 
-/// Appends a refusal that says this.
+/// Appends a refusal that says this. Out of memory the output stays as it was.
 pub(crate) fn write_refusal(
     alloc: Global,
     output: &mut Vec<u8>,
@@ -61,15 +45,15 @@ pub(crate) fn write_refusal(
 {
     let head = ResponseHead {
         status,
-        is_binary: false,
+        content_type: content_type(false),
         root: None,
         allow: None,
         closes,
     };
-    write_response(alloc, output, &head, &[text.as_bytes(), b"\n"])
+    append_response(alloc, output, &head, &[text.as_bytes(), b"\n"])
 }
 
-/// Appends the refusal of a method, which names the methods that are allowed.
+/// Appends the refusal of a method, which names the methods that are allowed. Out of memory the output stays as it was.
 pub(crate) fn write_not_allowed(
     alloc: Global,
     output: &mut Vec<u8>,
@@ -81,68 +65,12 @@ pub(crate) fn write_not_allowed(
 {
     let head = ResponseHead {
         status: StatusCode::METHOD_NOT_ALLOWED,
-        is_binary: false,
+        content_type: content_type(false),
         root: None,
         allow: Some(methods),
         closes,
     };
-    write_response(alloc, output, &head, &[b"method not allowed\n"])
-}
-
-/// Appends a response whose body is made of these parts, each of which is copied once. Out of memory it leaves
-/// what it wrote.
-#[tactic(auto, unfolding(crate::specs::ResponseTexts::response_text))]
-pub(crate) fn write_response(
-    alloc: Global,
-    output: &mut Vec<u8>,
-    head: &ResponseHead<'_>,
-    body: &[&[u8]],
-) -> Result<(), AllocError>
-    ensures { OnOk result (output.new.items ≡ output.old.items
-        ++ response_text (response_of head.now body.now)) }
-{
-    let Some(body_len) = total_len(body) else {
-        return Err(AllocError);
-    };
-    let text = head_text(alloc, head, body_len)?;
-    output.extend_from_slice(text.as_bytes())?;
-    for part in body {
-        output.extend_from_slice(part)?;
-    }
-    Ok(())
-}
-
-/// The number of bytes of all parts; none where that is no `usize`.
-fn total_len(parts: &[&[u8]]) -> Option<usize>
-    ensures { IfSome result (λ len. len ≡ length (body_of parts.now)) }
-{
-    let mut len: usize = 0;
-    for part in parts {
-        len = len.checked_add(part.len())?;
-    }
-    Some(len)
-}
-
-/// The status line, the fields and the empty line.
-fn head_text(alloc: Global, head: &ResponseHead<'_>, body_len: usize) -> Result<String, AllocError>
-    ensures { IfOk result (λ text. string_bytes text ≡ head_text (parts_of head.now) body_len) }
-{
-    let mut text = status_line(alloc, &head.status)?;
-    push_field(&mut text, "Content-Type", content_type(head.is_binary))?;
-    let length = number_text(alloc, body_len)?;
-    push_field(&mut text, "Content-Length", length.as_str())?;
-    push_root(alloc, &mut text, head.root)?;
-    push_allow(&mut text, head.allow)?;
-    push_close(&mut text, head.closes)?;
-    text.push_str("\r\n")?;
-    Ok(text)
-}
-
-fn status_line(alloc: Global, status: &StatusCode) -> Result<String, AllocError>
-    ensures { IfOk result (λ line. string_bytes line ≡ codes "HTTP/1.1 " ++ status_text status.now
-        ++ line_end) }
-{
-    format!(in alloc; "HTTP/1.1 {status}\r\n")
+    append_response(alloc, output, &head, &[b"method not allowed\n"])
 }
 
 fn content_type(is_binary: bool) -> &'static str
@@ -153,54 +81,4 @@ fn content_type(is_binary: bool) -> &'static str
     } else {
         "text/plain; charset=utf-8"
     }
-}
-
-fn number_text(alloc: Global, number: usize) -> Result<String, AllocError>
-    ensures { IfOk result (λ text. string_bytes text ≡ decimal number) }
-{
-    format!(in alloc; "{number}")
-}
-
-fn push_root(alloc: Global, text: &mut String, root: Option<&Digest>) -> Result<(), AllocError>
-    ensures { OnOk result (string_bytes text.new ≡ string_bytes text.old
-        ++ field_if (codes "Osm-Root") (option_map encode_lower (option_map
-        (λ root. root.now.0) root.entry))) }
-{
-    match root {
-        None => Ok(()),
-        Some(root) => {
-            let digits = hex::encode(alloc, &root.0)?;
-            push_field(text, "Osm-Root", digits.as_str())
-        }
-    }
-}
-
-fn push_allow(text: &mut String, allow: Option<&str>) -> Result<(), AllocError>
-    ensures { OnOk result (string_bytes text.new ≡ string_bytes text.old
-        ++ field_if (codes "Allow") (option_map (λ allow. allow.now) allow.entry)) }
-{
-    match allow {
-        None => Ok(()),
-        Some(methods) => push_field(text, "Allow", methods),
-    }
-}
-
-fn push_close(text: &mut String, closes: bool) -> Result<(), AllocError>
-    ensures { OnOk result (string_bytes text.new ≡ string_bytes text.old ++ close_if closes) }
-{
-    if closes {
-        push_field(text, "Connection", "close")
-    } else {
-        Ok(())
-    }
-}
-
-fn push_field(text: &mut String, name: &str, value: &str) -> Result<(), AllocError>
-    ensures { OnOk result (string_bytes text.new ≡ string_bytes text.old
-        ++ field_line name.now value.now) }
-{
-    text.push_str(name)?;
-    text.push_str(": ")?;
-    text.push_str(value)?;
-    text.push_str("\r\n")
 }

@@ -1,10 +1,10 @@
 -- Walks over trees that a stock holds: memory alone refuses them.
-use Rattle.std.proofs.Common.{◌≡◌, ℕ, List, [], ◌∷◌, length, Result, inl, inr, suc, refl, sym, ap, subst, ◌∙◌}
+use Rattle.std.proofs.Common.{Bool, ◌≡◌, ℕ, List, [], ◌∷◌, length, Result, inl, inr, suc, refl, sym, ap, subst, ◌∙◌}
 use Rattle.tree_node.specs.NodeRefs.{number_of}
 use Rattle.tree_node.specs.Nodes.{Binding}
 use Rattle.tree_node.specs.Outcomes.{Cause, EndsWell, NoMemory, Outcome}
 use Rattle.tree_node.specs.Recorders.{RecorderHolds, RecorderUsed}
-use Rattle.tree_node.specs.Shelves.{SameNodes}
+use Rattle.tree_node.specs.Shelves.{SameNodes, Stays}
 use Rattle.tree_node.specs.declared.recorder.Recorder.{Recorder}
 use Rattle.tree_node.specs.declared.tree.Tree.{Tree}
 use Rattle.tree_node.proofs.shared.OutcomeLaws.{honest, uses}
@@ -22,8 +22,8 @@ use Rattle.osm_keys.proofs.shared.EntryBytes.{is_top}
 use Rattle.osm_keys.proofs.shared.RangeLaws.{in_under}
 
 -- a call that needs only nodes of the shelf's stock ends well
-pub ends_well : {A F : Type 0} {cause : F → Cause} {Is : A → Type 0} {needed : List ℕ → Type 0} {result : Result A F} (old new : Recorder)
-    → SameNodes (RecorderHolds old) (RecorderHolds new) → ((x : List ℕ) → needed x → RecorderHolds old x)
+pub ends_well : {fixed : Bool} {A F : Type 0} {cause : F → Cause} {Is : A → Type 0} {needed : List ℕ → Type 0} {result : Result A F} (old new : Recorder)
+    → Stays fixed (RecorderHolds old) (RecorderHolds new) → ((x : List ℕ) → needed x → RecorderHolds old x)
     → Outcome cause Is needed (uses (RecorderHolds new) (RecorderUsed old) (RecorderUsed new)) result → EndsWell cause Is needed (uses (RecorderHolds new) (RecorderUsed old) (RecorderUsed new)) result
 ends_well old new stays all so = honest (stock_free new.stock.now) (λ x needs. (stays x).1 (all x needs)) (recorder_used new) so
 

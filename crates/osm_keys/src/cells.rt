@@ -18,8 +18,8 @@ use std::alloc::{AllocError, Global};
 /// 180th meridian. A box that lies between two neighbouring units of 1e-7 degree has none. The cells
 /// may also hold nodes outside the box; `cell_law` says what the ranges find.
 ///
-/// There are at most 3602 ranges. It takes the memory of the list, and of eight bytes a range; it is
-/// refused only where that is.
+/// There are at most 3602 ranges. It allocates the list and eight bytes for each range, and fails only if memory runs
+/// out.
 pub fn cell_ranges(alloc: Global, area: &BoxArea<'_>) -> Result<Vec<OwnedRange>, AllocError>
     ensures { IfOk result (λ ranges. AreCellRanges area.now ranges.items) }
 {

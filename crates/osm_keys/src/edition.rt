@@ -1,6 +1,6 @@
 //! Editions of roots.
 
-/// Under which rules a root was made (this project, docs/FORMATS.md). A manifest says it.
+/// The rules by which a root was made (this project, docs/FORMATS.md). The manifest states them.
 #[derive(Clone, Copy, Debug, PartialEq, Eq)]
 pub enum Edition {
     /// Trees of the first shape, and a manifest without a sequence.

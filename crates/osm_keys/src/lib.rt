@@ -3,8 +3,8 @@
 //!
 //! The key and range writers name the keys in which a question about a set is answered, and the readers say what a
 //! key, a value or a manifest means. What a publisher makes of a set is defined here ([`Manifest`], and in `specs/`
-//! the entries of each tree and the publication), and the crate's laws say what each range of keys finds in it. So
-//! it is all that whoever evaluates or checks a query has to know of a publication; `osm_index` builds them.
+//! the entries of each tree and the publication), and the crate's laws say what each range of keys finds in it. This is
+//! all that evaluating or checking a query needs to know of a publication; `osm_index` builds publications.
 #![tactic(auto)]
 
 mod cells;

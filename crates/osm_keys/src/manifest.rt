@@ -73,9 +73,9 @@ fn append_tops(tops: &[Digest; 4], out: &mut Vec<u8>) -> Result<(), AllocError>
     out.extend_from_slice(&tops[3].0)
 }
 
-/// The manifest that these bytes are: 133 bytes in the first edition, 141 in the second (this project,
-/// docs/FORMATS.md). It is none for any other bytes: another beginning than `OSMM`, another number than
-/// 1 or 2 after it, or another length than that of the edition. It takes no memory.
+/// The manifest with these bytes: 133 bytes in the first edition, 141 in the second (this project, docs/FORMATS.md).
+/// `None` for all other bytes: if they don't begin with `OSMM`, if the next byte is neither 1 nor 2, or if the length isn't
+/// that of the edition. It allocates nothing.
 pub fn read_manifest(bytes: &[u8]) -> Option<Manifest>
     // What is read has these bytes, and four tops of 32 bytes.
     ensures some { IfSome result (λ found. bytes.now ≡ manifest_bytes found) }

@@ -1,8 +1,11 @@
 //! The command `fetch`.
 
+ghost use Rattle.osm_mirror.specs.Jobs.{IsFetch};
+
 use crate::clean_output::CleanOutput;
 use crate::in_words::{Subject, Trouble, tell_in_words};
 use crate::tcp_dial::TcpDial;
+use command_line::Job;
 use mirror_answer::MirrorFault;
 use osm_commands::{CommandFault, Status};
 use osm_fetch::{NotFetched, fetch};
@@ -17,8 +20,26 @@ const SIZE_LIMIT: u64 = 1_073_741_824;
 /// How many bytes stand before the answer: the root and the answer's length.
 const PREFIX_SIZE: u64 = 40;
 
+/// Starts `fetch`, as its job says.
+pub(crate) fn start_fetch(rt: &HostRuntime, job: Job) -> Status
+    requires { IsFetch job }
+{
+    let Job::Fetch {
+        root,
+        mirror,
+        query,
+        form,
+        max_size,
+        max_work,
+    } = job
+    else {
+        unreachable!("the job is to fetch")
+    };
+    fetch_answer(rt, &root, &mirror, &query, form, max_size, max_work)
+}
+
 /// Asks the mirror at this place for the answer to a query, and writes it once its proof was checked.
-pub(crate) fn fetch_answer(
+fn fetch_answer(
     rt: &HostRuntime,
     root: &Digest,
     place: &str,

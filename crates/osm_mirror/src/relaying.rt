@@ -1,8 +1,11 @@
 //! The command `relay`.
 
+ghost use Rattle.osm_mirror.specs.Jobs.{IsRelay};
+
 use crate::root_file::RootFile;
 use crate::server_errors::ServerErrors;
 use crate::telling::{NOTHING, port_refused, report};
+use command_line::Job;
 use osm_commands::{CommandFault, Status, WholeLines, root_line};
 use osm_relay::{RelayFault, Roots, relay_many};
 use relay_sockets::{Mirror, MirrorError, Sockets};
@@ -11,9 +14,37 @@ use std::io::{IsTerminal, Write};
 use std::net::SocketAddr;
 use tree_node::Digest;
 
+/// Starts `relay`, as its job says.
+pub(crate) fn start_relay(rt: &HostRuntime, job: Job) -> Status
+    requires { IsRelay job }
+{
+    let Job::Relay {
+        root,
+        mirror,
+        fallbacks,
+        port,
+        root_file,
+        connections,
+        max_work,
+    } = job
+    else {
+        unreachable!("the job is to relay")
+    };
+    relay_clients(
+        rt,
+        root,
+        &mirror,
+        &fallbacks,
+        port,
+        root_file.as_deref(),
+        connections,
+        max_work,
+    )
+}
+
 /// Serves this number of clients on this port, with what the mirrors at these places have proved under the root that is in
 /// force: the one that is given, or that a file tells. Each check of a proof has this budget, if there is one.
-pub(crate) fn relay_clients(
+fn relay_clients(
     rt: &HostRuntime,
     root: Digest,
     place: &str,
@@ -77,8 +108,8 @@ fn add_mirror(
     }
 }
 
-/// Serves clients over sockets that listen at this address, within this budget. At first it says where, and which mirror is asked under which
-/// root. A line that standard error can't take at once is dropped.
+/// Serves clients over sockets that listen at this address, within this budget. At first it says where, and which mirror
+/// is asked under which root. A line that standard error can't take at once is dropped.
 fn relay_over(
     rt: &HostRuntime,
     mut roots: RootFile<'_>,

@@ -1,11 +1,11 @@
 -- The nodes that an evaluation used, as the proof lists them.
-use Rattle.std.proofs.Common.{◌≡◌, ℕ, ◌↔◌, List, inl, inr}
+use Rattle.std.proofs.Common.{Bool, ◌≡◌, ℕ, ◌↔◌, List, inl, inr}
 use Rattle.std.specs.List.{AllByRecursion-prop, Contains}
 use Rattle.std.proofs.Math.Bridge.{le_prop}
 use Rattle.std.proofs.Math.Logic.{∥∥₁_elim}
 use Rattle.tree_node.specs.Outcomes.{GrownByAll}
 use Rattle.tree_node.specs.Parts.{HaveNode, HaveRisingDigests}
-use Rattle.tree_node.specs.Shelves.{IsEmptySet, SameNodes}
+use Rattle.tree_node.specs.Shelves.{IsEmptySet, SameNodes, Stays}
 use Rattle.tree_node.specs.Stocks.{HasNode}
 use Rattle.tree_node.specs.declared.part.Part.{Part}
 use Rattle.tree_node.specs.declared.stock.Stock.{Stock}
@@ -53,13 +53,13 @@ proof_of_needed p statements nodes proof is are e = record {
 }
 
 -- a shelf over a stock that has the nodes of the publication holds what the query needs, and goes on to hold it
-pub all_held : (p : Publication) (statements : Statements) (stock : Stock) (old new : List ℕ → Type 0) → SameNodes (HasNode stock) old → SameNodes old new
+pub all_held : {fixed : Bool} (p : Publication) (statements : Statements) (stock : Stock) (old new : List ℕ → Type 0) → SameNodes (HasNode stock) old → Stays fixed old new
     → ((x : List ℕ) → HasNode stock x ↔ IsNodeIn p x) → (x : List ℕ) → IsNeeded p statements x → new x
 all_held p statements stock old new holds stays nodes x needed =
     (stays x).1 ((holds x).1 ((nodes x).1 (needed_in p statements x needed)))
 
 -- and so it holds whatever may be asked for
-pub askable_held : (p : Publication) (stock : Stock) (old new : List ℕ → Type 0) → SameNodes (HasNode stock) old → SameNodes old new
+pub askable_held : {fixed : Bool} (p : Publication) (stock : Stock) (old new : List ℕ → Type 0) → SameNodes (HasNode stock) old → Stays fixed old new
     → ((x : List ℕ) → HasNode stock x ↔ IsNodeIn p x) → (x : List ℕ) → work.IsNodeOf p x → new x
 askable_held p stock old new holds stays nodes x askable = (stays x).1 ((holds x).1 ((nodes x).1 (askable_in p x askable)))
 

@@ -10,7 +10,7 @@ use Rattle.osm_relay.specs.Errands.{answer_to, errand_of}
 use Rattle.osm_relay.specs.MirrorTexts.{fault_text}
 use Rattle.osm_relay.specs.Pages.{error_response}
 use Rattle.osm_relay.specs.Relayed.{IsAlone}
-use Rattle.osm_relay.specs.ResponseTexts.{response_text}
+use Rattle.http_messages.specs.ResponseTexts.{response_text}
 use Rattle.osm_relay.specs.declared.finding.Found.{Found}
 use Rattle.osm_relay.specs.declared.finding.Found.TheVariants.{Ask, Open, Respond}
 use Rattle.osm_relay.specs.internal.Finding.{IsFound, Meets}

@@ -1,5 +1,5 @@
 -- What a client is told where the last mirror that was asked is an honest one.
-use Rattle.std.proofs.Common.{◌≡◌, ◌∙◌, ◌++◌, ℕ, List, [], ap, append-nil, arith, false, inl, inr, refl, subst, sym, true}
+use Rattle.std.proofs.Common.{◌≡◌, ◌∙◌, ◌++◌, ℕ, List, [], ap, append-nil, false, inl, inr, refl, subst, sym, true}
 use Rattle.std.specs.Prelude.{Bool, Option, Some, None}
 use Rattle.ql_syntax.proofs.FormatLemmas.{one_format}
 use Rattle.osm_check.specs.Telling.{IsProvedIn, IsTold}
@@ -7,11 +7,8 @@ use Rattle.osm_check.specs.declared.told.Told.TheVariants.{No}
 use Rattle.osm_check.specs.declared.why.Why.{Why}
 use Rattle.osm_check.proofs.shared.HonestLemmas.{not_refused, shown_is}
 use Rattle.osm_forms.specs.declared.form.Form.{Form}
-use Rattle.mirror_reply.specs.Heads.{unfinished}
 use Rattle.mirror_reply.specs.Replies.{HasReply}
-use Rattle.mirror_reply.specs.Standings.{Stands, replied, waits}
-use Rattle.mirror_reply.proofs.SpelledLemmas.{reply-no_fault, reply-stands, reply-unique}
-use Rattle.mirror_reply.proofs.StandingLemmas.{stands-unique}
+use Rattle.mirror_reply.proofs.shared.SpelledLemmas.{none_replied, reply-no_fault, reply-unique, waiting_holds_none}
 use Rattle.mirror_answer.specs.Showing.{IsPassed}
 use Rattle.mirror_answer.specs.declared.mirror_fault.MirrorFault.{MirrorFault}
 use Rattle.mirror_answer.specs.declared.mirror_fault.MirrorFault.TheVariants as faults
@@ -22,7 +19,7 @@ use Rattle.osm_relay.specs.MirrorTexts.{mirror_text, status_of_fault}
 use Rattle.osm_relay.specs.Pages.{document_response, error_response, too_much_work}
 use Rattle.osm_relay.specs.Questions.{WantsForm, form_for}
 use Rattle.osm_relay.specs.Relayed.{Alone, Given, IsMirrorFault, IsTaken, IsTakenAt, NotGiven, Relayed, Starved, Wants, wanted_under}
-use Rattle.osm_relay.specs.ResponseTexts.{response_text}
+use Rattle.http_messages.specs.ResponseTexts.{response_text}
 use Rattle.osm_relay.specs.declared.limits.TheConstants.{REPLY_LIMIT}
 use Rattle.osm_relay.specs.declared.terms.Terms.{Terms}
 
@@ -33,16 +30,6 @@ one_errand bytes first second (d, begins, is) (e, starts, same) = cc
 
 one_form : (query : List ℕ) (first second : Form) → WantsForm query first → WantsForm query second → first ≡ second
 one_form query first second x y = x.formed ∙ ap form_for (one_format query x.format y.format x.asked y.asked) ∙ sym y.formed
-
--- ---- bytes that hold no reply
-
-waiting_holds_none : (received a b c : List ℕ) → Stands REPLY_LIMIT false received waits → HasReply REPLY_LIMIT received a b c → ⊥
-waiting_holds_none received a b c stands reply =
-    let same = stands-unique REPLY_LIMIT false received waits (replied a b c) stands (reply-stands REPLY_LIMIT false received a b c reply) in
-    cc same
-
-none_replied : (a b c : List ℕ) → HasReply REPLY_LIMIT [] a b c → ⊥
-none_replied a b c reply = waiting_holds_none [] a b c (unfinished, (refl, omega arith), refl) reply
 
 -- ---- an honest mirror
 
@@ -84,8 +71,8 @@ module _ (terms : Terms) (response : List ℕ) (c m : Log) (is : IsServed terms 
   fault_as : (query : List ℕ) (form : Form) → Wants c.brought query form → (fault : MirrorFault) → IsMirrorFault (wanted_under terms query form) (Some m) fault
       → (fault ≡ faults.Work) × IsPassed (wanted_under terms is.query is.form) is.proof
   fault_as query form wants faults.Unreached (took, brought) =
-      absurd (none_replied is.named is.answer is.proof (subst (λ (t : List ℕ). HasReply REPLY_LIMIT t is.named is.answer is.proof) brought is.replied))
-  fault_as query form wants faults.Silent stands = absurd (waiting_holds_none m.brought is.named is.answer is.proof stands is.replied)
+      absurd (none_replied REPLY_LIMIT is.named is.answer is.proof (subst (λ (t : List ℕ). HasReply REPLY_LIMIT t is.named is.answer is.proof) brought is.replied))
+  fault_as query form wants faults.Silent stands = absurd (waiting_holds_none REPLY_LIMIT m.brought is.named is.answer is.proof stands is.replied)
   fault_as query form wants (faults.Reply fault) has = absurd (reply-no_fault REPLY_LIMIT m.ended m.brought is.named is.answer is.proof fault is.replied has)
   fault_as query form wants faults.OtherRoot (named, answer, proof, reply, (other, (why, of, told))) = absurd (no_refusal query form wants named answer proof reply why told)
   fault_as query form wants (faults.Proof why) (named, answer, proof, reply, (same, of, told)) = absurd (no_refusal query form wants named answer proof reply why told)

@@ -2,7 +2,6 @@ pub mod DialledLemmas
 pub mod FindingLemmas
 pub mod HeardLemmas
 pub mod HonestLemmas
-pub mod JoinedTexts
 pub mod PromiseLemmas
 pub mod RelayingLemmas
 pub mod StageLemmas

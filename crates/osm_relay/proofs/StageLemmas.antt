@@ -22,7 +22,7 @@ use Rattle.osm_relay.specs.MirrorTexts.{mirror_text, status_of_fault}
 use Rattle.osm_relay.specs.Pages.{document_response, error_response, starved}
 use Rattle.osm_relay.specs.Questions.{WantsForm}
 use Rattle.osm_relay.specs.Relayed.{Alone, Given, IsAlone, IsAskedFor, IsMirrorFault, NotGiven, Relayed, Starved, Wants}
-use Rattle.osm_relay.specs.ResponseTexts.{response_text}
+use Rattle.http_messages.specs.ResponseTexts.{response_text}
 use Rattle.osm_relay.specs.declared.limits.TheConstants.{REPLY_LIMIT}
 use Rattle.osm_relay.specs.declared.question.Question.{Question}
 use Rattle.osm_relay.specs.declared.stage.Search.{Search}

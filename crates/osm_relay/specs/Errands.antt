@@ -4,12 +4,13 @@ use Rattle.std.specs.Prelude.{◌≡◌, ℕ, List, Option, Some, None, if◌the
 use Rattle.std.specs.Str.{bytes_eq}
 use Rattle.http_messages.specs.Forms.{query_of}
 use Rattle.http_messages.specs.HeadEnds.{skip_breaks}
+use Rattle.http_messages.specs.Methods.{method_of}
 use Rattle.http_messages.specs.Refusals.{refusal_status, refusal_text}
 use Rattle.http_messages.specs.Requests.{Asked, Decided, Request, asked, first_request, refused}
 use Rattle.http_messages.specs.Targets.{path_of}
 use Rattle.http_messages.specs.declared.query_text.QuerySource.TheVariants.{Body, Target}
-use Rattle.osm_relay.specs.declared.method.Method.{Method}
-use Rattle.osm_relay.specs.declared.method.Method.TheVariants.{Get, Other, Post}
+use Rattle.http_messages.specs.declared.method.Method.{Method}
+use Rattle.http_messages.specs.declared.method.Method.TheVariants.{Get, Other, Post}
 
 -- it is refused with a status and a text, its method is none of those that are allowed, it asks for free slots, or for the
 -- answer to a query
@@ -22,9 +23,6 @@ pub data Errand : Type 0 where
 abbrev pub by_query : Option (List ℕ) → Errand
 by_query None = unmet 400 (codes "no data")
 by_query (Some query) = answer_to query
-
-abbrev pub method_of : List ℕ → Method
-method_of method = if bytes_eq method (codes "GET") then Get else (if bytes_eq method (codes "POST") then Post else Other)
 
 abbrev pub at_interpreter : Asked → Method → Errand
 at_interpreter a Get = by_query (query_of Target a)

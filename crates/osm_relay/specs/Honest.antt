@@ -9,7 +9,7 @@ use Rattle.mirror_answer.specs.Showing.{IsPassed}
 use Rattle.osm_relay.specs.Logs.{Log}
 use Rattle.osm_relay.specs.Pages.{document_response, starved, too_much_work}
 use Rattle.osm_relay.specs.Relayed.{Wants, wanted_under}
-use Rattle.osm_relay.specs.ResponseTexts.{response_text}
+use Rattle.http_messages.specs.ResponseTexts.{response_text}
 use Rattle.osm_relay.specs.declared.limits.TheConstants.{REPLY_LIMIT}
 use Rattle.osm_relay.specs.declared.terms.Terms.{Terms}
 

@@ -6,5 +6,4 @@ pub mod MirrorTexts
 pub mod Pages
 pub mod Questions
 pub mod Relayed
-pub mod ResponseTexts
 pub mod internal

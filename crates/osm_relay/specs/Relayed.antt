@@ -17,7 +17,7 @@ use Rattle.osm_relay.specs.Logs.{Log}
 use Rattle.osm_relay.specs.MirrorTexts.{fault_text, mirror_text, status_of_fault}
 use Rattle.osm_relay.specs.Pages.{document_response, error_response, not_allowed_response, slots_response, starved}
 use Rattle.osm_relay.specs.Questions.{WantsForm}
-use Rattle.osm_relay.specs.ResponseTexts.{response_text}
+use Rattle.http_messages.specs.ResponseTexts.{response_text}
 use Rattle.osm_relay.specs.declared.limits.TheConstants.{REPLY_LIMIT}
 use Rattle.osm_relay.specs.declared.terms.Terms.{Terms}
 

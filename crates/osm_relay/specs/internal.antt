@@ -1,5 +1,4 @@
 -- Words that only private clauses cite: nothing that a reader of the promises must believe.
-pub mod Adding
 pub mod Finding
 pub mod Judging
 pub mod Kept

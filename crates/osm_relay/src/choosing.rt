@@ -5,7 +5,7 @@ ghost use Rattle.mirror_reply.specs.Requests.{is_host_text, request_text};
 ghost use Rattle.osm_relay.specs.Logs.{Log, fresh};
 ghost use Rattle.osm_relay.specs.MirrorTexts.{mirror_text, status_of_fault};
 ghost use Rattle.osm_relay.specs.Pages.{error_response};
-ghost use Rattle.osm_relay.specs.ResponseTexts.{response_text};
+ghost use Rattle.http_messages.specs.ResponseTexts.{response_text};
 ghost use Rattle.osm_relay.specs.declared.terms.Terms.{Terms};
 ghost use Rattle.osm_relay.specs.internal.Stages.{StandsAt};
 

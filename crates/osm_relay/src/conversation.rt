@@ -1,6 +1,6 @@
 //! Conversations.
 
-ghost use Rattle.std.specs.Prelude.{◌≡◌, ◌↔◌, IsSome, None, true};
+ghost use Rattle.std.specs.Prelude.{◌≡◌, ◌↔◌, IsSome, None, option_map, true};
 ghost use Rattle.osm_relay.specs.Logs.{fresh};
 ghost use Rattle.osm_relay.specs.Relayed.{IsPromised};
 
@@ -95,7 +95,8 @@ impl<W: Wire> Conversation<W> {
     {
         match &self.stage {
             Stage::Hearing(_) => Awaits::Request,
-            Stage::Choosing(_) | Stage::Asking { .. } | Stage::Listening { .. } => Awaits::Mirror,
+            Stage::Choosing(_) | Stage::Asking { .. } => Awaits::Mirror,
+            Stage::Listening { .. } => Awaits::Reply,
             Stage::Answering(_) => Awaits::Client,
             Stage::Over { .. } => Awaits::Nothing,
         }
@@ -135,18 +136,19 @@ impl<W: Wire> Conversation<W> {
         self.stage = impatient(stage);
     }
 
-    /// Gives the client's wire back, once the conversation is over.
-    pub fn into_client(self) -> W
+    /// Gives the client's wire back, and that of the last mirror asked, once the conversation is over.
+    pub fn into_wires(self) -> (W, Option<W>)
         requires { IsSome self.ending }
-        ensures { W.log result ≡ self.client }
+        ensures client { W.log result.0 ≡ self.client }
+        ensures mirror { option_map W.log result.1 ≡ self.mirror }
     {
         let Conversation {
             number: _,
             terms: _,
             client,
-            mirror: _,
+            mirror,
             stage: _,
         } = self;
-        client
+        (client, mirror)
     }
 }

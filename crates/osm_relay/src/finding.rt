@@ -9,16 +9,17 @@ ghost use Rattle.http_messages.specs.declared.limits.TheConstants.{HEAD_LIMIT};
 ghost use Rattle.osm_relay.specs.Errands.{answer_to, at_interpreter, at_path, at_status, by_query, not_allowed, unmet};
 ghost use Rattle.osm_relay.specs.MirrorTexts.{fault_text};
 ghost use Rattle.osm_relay.specs.Pages.{error_response};
-ghost use Rattle.osm_relay.specs.ResponseTexts.{response_text};
+ghost use Rattle.http_messages.specs.ResponseTexts.{response_text};
 ghost use Rattle.osm_relay.specs.internal.Finding.{IsFound, Meets};
 
 use crate::fault_texts::fault_text;
-use crate::method::{Method, method_of};
 use crate::page::{error_response, not_allowed_response};
 use crate::question::{Question, form_for};
 use crate::slots::slots_response;
 use http::StatusCode;
-use http_messages::{Decision, QuerySource, Request, first_request, query_of, split_target};
+use http_messages::{
+    Decision, Method, QuerySource, Request, first_request, method_of, query_of, split_target,
+};
 use ql_syntax::{QlCause, QlFault, asked_format, parse};
 use std::alloc::{AllocError, Global};
 

@@ -3,12 +3,13 @@
 ghost use Rattle.std.specs.Prelude.{◌≡◌, IfOk};
 ghost use Rattle.osm_relay.specs.internal.Judging.{Judges};
 ghost use Rattle.osm_relay.specs.Pages.{document_response};
-ghost use Rattle.osm_relay.specs.ResponseTexts.{response_text};
+ghost use Rattle.http_messages.specs.ResponseTexts.{response_text};
 
 use crate::question::Question;
-use crate::response::{ResponseHead, joined_response};
+use crate::response::joined_response;
 use crate::terms::Terms;
 use http::StatusCode;
+use http_messages::ResponseHead;
 use mirror_answer::{MirrorFault, Shown, show};
 use mirror_reply::Parts;
 use osm_forms::Form;
@@ -48,8 +49,9 @@ fn document(alloc: Global, form: Form, root: &Digest, text: &[u8]) -> Result<Vec
     let head = ResponseHead {
         status: StatusCode::OK,
         content_type: form.content_type(),
-        root: Some(root),
+        root: Some(&root.0),
         allow: None,
+        closes: true,
     };
     let parts = form.document_parts(text);
     joined_response(alloc, &head, parts.header, parts.body, parts.trailer)

@@ -17,7 +17,6 @@ mod judging;
 mod laws;
 mod limits;
 mod listening;
-mod method;
 mod network;
 mod output;
 mod page;

@@ -56,7 +56,7 @@ pub trait Network<W: Wire> {
         ensures log { log self.new ≡ log self.old };
 
     /// Notes what the last turn of the conversation did, and what it waits for now. Where something moved, it is told soon that
-    /// the conversation may go on.
+    /// the conversation may go on; if it waits for a request or a mirror's response, once something of that has come.
     fn note(&mut self, number: u32, awaits: Awaits, turn: Turn)
         ensures { log self.new ≡ log self.old };
 

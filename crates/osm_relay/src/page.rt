@@ -2,10 +2,11 @@
 
 ghost use Rattle.std.specs.Prelude.{◌≡◌, ◌++◌, IfOk, OnOk, option_map};
 ghost use Rattle.osm_relay.specs.Pages.{error_response, escaped, escaped_byte, not_allowed_response, page_response};
-ghost use Rattle.osm_relay.specs.ResponseTexts.{response_text};
+ghost use Rattle.http_messages.specs.ResponseTexts.{response_text};
 
-use crate::response::{ResponseHead, joined_response};
+use crate::response::joined_response;
 use http::StatusCode;
+use http_messages::ResponseHead;
 use std::alloc::{AllocError, Global};
 
 /// What a page says before the text of its error, as an Overpass server does.
@@ -49,6 +50,7 @@ fn page_response(
         content_type: "text/html; charset=utf-8",
         root: None,
         allow,
+        closes: true,
     };
     let mut line = Vec::new(alloc);
     push_escaped(&mut line, text)?;

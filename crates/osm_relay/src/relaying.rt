@@ -170,8 +170,9 @@ fn go_on<W: Wire, N: Network<W>>(
     match conversation.ending() {
         None => network.note(number, conversation.awaits(), turn),
         Some(whole) => {
-            // Those that are left stay in the order in which they came; there are 64 at most.
-            let client = conversations.remove(at).into_client();
+            // Those that are left stay in the order in which they came; there are 64 at most. The client is let go before the
+            // mirror's wire is closed: it may wait for that.
+            let (client, _mirror) = conversations.remove(at).into_wires();
             network.let_go(number, client, whole);
         }
     }

@@ -2,10 +2,11 @@
 
 ghost use Rattle.std.specs.Prelude.{◌≡◌, IfOk};
 ghost use Rattle.osm_relay.specs.Pages.{slots_response};
-ghost use Rattle.osm_relay.specs.ResponseTexts.{response_text};
+ghost use Rattle.http_messages.specs.ResponseTexts.{response_text};
 
-use crate::response::{ResponseHead, make_response};
+use crate::response::make_response;
 use http::StatusCode;
+use http_messages::ResponseHead;
 use std::alloc::{AllocError, Global};
 
 /// What it tells, whenever it is asked. Clients read the fifth line, and ask at once where its first word is a number.
@@ -21,6 +22,7 @@ pub(crate) fn slots_response(alloc: Global) -> Result<Vec<u8>, AllocError>
         content_type: "text/plain; charset=utf-8",
         root: None,
         allow: None,
+        closes: true,
     };
     make_response(alloc, &head, &[SLOTS])
 }

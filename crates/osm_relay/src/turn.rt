@@ -5,8 +5,10 @@
 pub enum Awaits {
     /// That the client sends its request.
     Request,
-    /// That the mirror takes the request, or sends its response.
+    /// That the mirror takes the request.
     Mirror,
+    /// That the mirror sends its response.
+    Reply,
     /// That the client takes its response.
     Client,
     /// Nothing: it is over.

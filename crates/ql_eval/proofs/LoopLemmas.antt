@@ -2,7 +2,8 @@
 use Rattle.std.proofs.Common.{◌≡◌, ℕ, ◌+◌, ◌<◌, ◌≤◌, List, Result, Ok, Err, length, take, get_or, refl}
 use Rattle.std.specs.Result.{IsErrAnd}
 use Rattle.tree_node.specs.Outcomes.{Outcome, ShelfUse}
-use Rattle.tree_node.proofs.shared.OutcomeLaws.{Nodes, outcome_as, outcome_starts, outcome_then, outcome_then_stops, uses}
+use Rattle.tree_node.specs.Shelves.{SameNodes}
+use Rattle.tree_node.proofs.shared.OutcomeLaws.{Nodes, outcome_as, outcome_starts_same, outcome_then, outcome_then_stops, uses}
 use Rattle.osm_keys.specs.Publications.{Publication}
 use Rattle.ref_sets.proofs.shared.Adding.{adds_all, adds_more, adds_start}
 use Rattle.ref_sets.specs.Adding.{Adds, From}
@@ -21,8 +22,11 @@ module _ {A B : Type 0} (p : Publication) (xs : List B) (Gives : B → A → Typ
   abbrev pub HasStepped : {V : Type 0} → B → List A → List A → ShelfUse → Result V EvalFault → Type 0
   HasStepped b earlier later shelf result = Outcome cause_of_evaluation (λ _. Adds earlier later (Gives b)) (NeededBy p (Asks b)) shelf result
 
+  pub gone_same : {held used later : Nodes} {list : List A} → SameNodes used later → HasGone 0 list list (uses held used later)
+  gone_same same = outcome_starts_same (adds_start xs Gives) (none_needed Asks p xs) same
+
   pub gone_none : {held used : Nodes} {list : List A} → HasGone 0 list list (uses held used used)
-  gone_none = outcome_starts (adds_start xs Gives) (none_needed Asks p xs)
+  gone_none = gone_same (λ x. ((λ is. is), (λ is. is)))
 
   module _ (k : ℕ) (b : B) (lt : k < length xs) (is_next : b ≡ get_or xs k b) where
     pub gone_next : {V : Type 0} {before held old mid new : Nodes} {first then last : List A} {value : V} → ((x : List ℕ) → mid x → new x)

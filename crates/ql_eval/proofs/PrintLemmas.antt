@@ -22,7 +22,8 @@ use Rattle.osm_forms.specs.declared.form.Form.TheVariants as forms
 use Rattle.osm_model.specs.declared.out_mode.OutMode.{OutMode}
 use Rattle.osm_model.specs.declared.out_mode.OutMode.TheVariants as modes
 use Rattle.tree_node.specs.Outcomes.{Outcome, ShelfUse}
-use Rattle.tree_node.proofs.shared.OutcomeLaws.{Nodes, outcome_as, outcome_starts, outcome_then, outcome_then_stops, uses}
+use Rattle.tree_node.specs.Shelves.{SameNodes}
+use Rattle.tree_node.proofs.shared.OutcomeLaws.{Nodes, outcome_as, outcome_starts_same, outcome_then, outcome_then_stops, uses}
 use Rattle.osm_keys.proofs.shared.Members.{first_or_in_rest, from_map, here, in_map, in_rest, none}
 use Rattle.osm_keys.proofs.shared.OneObject.{object_there, same_reference}
 use Rattle.osm_keys.specs.Publications.{Publication}
@@ -202,8 +203,8 @@ module _ {B : Type 0} (p : Publication) (xs : List B) (Asks : B → Ask → Type
   abbrev pub HasPut : {V : Type 0} → B → Nodes → Nodes → ShelfUse → Result V EvalFault → Type 0
   HasPut b was is shelf result = Outcome cause_of_evaluation (λ _. HasWritten was is (line b)) (NeededBy p (Asks b)) shelf result
 
-  pub printed_none : {held used was : Nodes} → HasPrinted 0 was was (uses held used used)
-  printed_none = outcome_starts written_none (none_needed Asks p xs)
+  pub printed_same : {held used later was : Nodes} → SameNodes used later → HasPrinted 0 was was (uses held used later)
+  printed_same same = outcome_starts_same written_none (none_needed Asks p xs) same
 
   module _ (k : ℕ) (b : B) (lt : k < length xs) (is_next : b ≡ get_or xs k b) where
     pub printed_next : {V : Type 0} {before held old mid new was mark is : Nodes} {value : V} → ((x : List ℕ) → mid x → new x)

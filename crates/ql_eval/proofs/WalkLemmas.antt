@@ -8,6 +8,8 @@ use Rattle.osm_keys.specs.Ranges.{object_range}
 use Rattle.osm_keys.specs.declared.manifest.Manifest.{Manifest}
 use Rattle.tree_node.specs.NodeRefs.{number_of}
 use Rattle.tree_node.specs.Nodes.{Binding}
+use Rattle.tree_node.specs.Outcomes.{Cause, Outcome}
+use Rattle.tree_node.specs.Shelves.{SameNodes}
 use Rattle.tree_node.specs.declared.tree.Tree.{Tree}
 use Rattle.tree_node.specs.declared.tree.Tree.TheVariants.{Objects}
 use Rattle.tree_node.proofs.shared.OutcomeLaws.{Nodes, uses}
@@ -77,3 +79,21 @@ none_given held old used m from to r found (Ok None) walk put = λ e.
     subst (λ (bs : List Binding). Gives used Objects (top_among m.tops Objects) (object_range r) (These bs)) put
     (gives_more _ used Objects (top_among m.tops Objects) (object_range r) (These found) (λ x among. (walk.fetched.gained x).1 (inr among)) walk.gives)
 none_given held old used m from to r found (Err fault) walk put = tt
+
+-- ---- after a call that left what was used as it was
+
+-- the outcome of a call is one since before that call
+pub outcome_before : {A F : Type 0} {cause : F → Cause} {Is : A → Type 0} {needed held old mid new : Nodes} (result : Result A F) → SameNodes old mid → Outcome cause Is needed (uses held mid new) result → Outcome cause Is needed (uses held old new) result
+outcome_before (Ok value) same so = record {
+  ends = elim so.ends [
+    | inl clash ↦ inl clash
+    | inr ends ↦ inr (
+      ends.0,
+      λ x. (
+        (λ has. elim ((ends.1 x).0 has) [ inl was ↦ inl ((same x).0 was) | inr needs ↦ inr needs ]),
+        (λ is. elim is [ inl was ↦ (ends.1 x).1 (inl ((same x).1 was)) | inr needs ↦ (ends.1 x).1 (inr needs) ]),
+      ),
+    )
+  ];
+}
+outcome_before (Err fault) same so = record { ends = so.ends }

@@ -3,7 +3,7 @@
 ghost use Rattle.std.specs.Prelude.{ℕ, IfErr, IfOk, List, OnOk};
 ghost use Rattle.tree_node.specs.NodeRefs.{binding_of, bindings_of};
 ghost use Rattle.tree_node.specs.Outcomes.{Outcome};
-ghost use Rattle.tree_node.specs.Shelves.{SameNodes};
+ghost use Rattle.tree_node.specs.Shelves.{Stays};
 ghost use Rattle.tree_node.specs.declared.tree.Tree.TheVariants.{Cells};
 ghost use Rattle.tree_walk.specs.WalksGiven.{HasGiven};
 ghost use Rattle.osm_keys.specs.Manifests.{top_among};
@@ -23,6 +23,7 @@ ghost use Rattle.ql_eval.specs.Forms.{HasForm, HaveForm};
 ghost use Rattle.ql_eval.specs.internal.Entries.{AreMisread, IsMisread, IsSaid, PlacesIn, SaysIn};
 ghost use Rattle.tree_walk.specs.Uses.{nodes_around};
 
+use crate::announcing::announce_cells;
 use crate::cell_entry::read_cell_entry;
 use crate::fault::EvalFault;
 use crate::walks::entries_in;
@@ -41,7 +42,7 @@ pub(crate) fn find_in_box<'a, S: Shelf<'a>>(
     area: &BoxArea<'_>,
     tally: &mut Tally,
 ) -> Result<RefSet, EvalFault>
-    ensures stays { SameNodes (S.holds shelf.old) (S.holds shelf.new) }
+    ensures stays { Stays S.is_fixed (S.holds shelf.old) (S.holds shelf.new) }
     ensures grows { (bytes : List ℕ) → S.used shelf.old bytes → S.used shelf.new bytes }
     ensures walked { OnOk result (HasGiven (top_among manifest.now.tops) HaveForm
         (nodes_around S.holds S.used shelf.old shelf.new)
@@ -55,6 +56,7 @@ pub(crate) fn find_in_box<'a, S: Shelf<'a>>(
         (nodes_around S.holds S.used shelf.old shelf.new) result }
 {
     let ranges = cell_ranges(alloc, area)?;
+    announce_cells(shelf, manifest, &ranges);
     let mut names = Vec::new(alloc);
     for keys in &ranges {
         add_range(alloc, shelf, manifest, area, keys, tally, &mut names)?;
@@ -73,7 +75,7 @@ fn add_range<'a, S: Shelf<'a>>(
     names: &mut Vec<Ref>,
 ) -> Result<(), EvalFault>
     requires { AllGiven (IsNamedIn (S.used shelf.old) manifest.now) names.old.items }
-    ensures stays { SameNodes (S.holds shelf.old) (S.holds shelf.new) }
+    ensures stays { Stays S.is_fixed (S.holds shelf.old) (S.holds shelf.new) }
     ensures grows { (bytes : List ℕ) → S.used shelf.old bytes → S.used shelf.new bytes }
     ensures walked { OnOk result (HasGiven (top_among manifest.now.tops) HaveForm
         (nodes_around S.holds S.used shelf.old shelf.new)

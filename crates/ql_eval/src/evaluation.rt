@@ -1,8 +1,8 @@
 //! The answer to a query, from what a shelf holds.
 
-ghost use Rattle.std.specs.Prelude.{◌≡◌, ◌≢◌, ◌-◌, ◌^◌, ◌<◌, ◌⊎◌, ℕ, Err, IfErr, IfOk, List, None, OnErr, OnOk, length};
+ghost use Rattle.std.specs.Prelude.{◌≡◌, ◌≢◌, ◌-◌, ◌^◌, ◌<◌, ◌⊎◌, ℕ, Err, IfErr, IfOk, List, None, OnErr, OnOk, length, true};
 ghost use Rattle.tree_node.specs.Outcomes.{EndsWell, Outcome};
-ghost use Rattle.tree_node.specs.Shelves.{HasNone, IsClashFree, SameNodes};
+ghost use Rattle.tree_node.specs.Shelves.{HasNone, IsClashFree, Stays};
 ghost use Rattle.tree_walk.specs.Walked.{HasWalked};
 ghost use Rattle.tree_walk.specs.WalksGiven.{HasGiven};
 ghost use Rattle.osm_keys.specs.Manifests.{top_among};
@@ -65,14 +65,14 @@ pub fn evaluate<'a, S: Shelf<'a>, T: Sink>(
 ) -> Result<Report, EvalFault>
     // The sink tells its length, to which a refused answer is cut.
     requires { (text : List ℕ) → T.stands sink.old text → length text < 2 ^ 64 - 1 }
-    // The held nodes never change, and what was used stays used.
-    ensures stays { SameNodes (S.holds shelf.old) (S.holds shelf.new) }
+    // What is held stays held, on a fixed shelf just that, and what was used stays used.
+    ensures stays { Stays S.is_fixed (S.holds shelf.old) (S.holds shelf.new) }
     ensures grows { (bytes : List ℕ) → S.used shelf.old bytes → S.used shelf.new bytes }
     ensures kept { T.kept sink.new ≡ T.kept sink.old }
     ensures refused { OnErr result
         ((text : List ℕ) → T.stands sink.old text → T.stands sink.new text) }
     // E4 with `Missing` where no held node has the root.
-    ensures none { HasNone (S.holds shelf.new) root.now.0
+    ensures none { S.is_fixed ≡ true → HasNone (S.holds shelf.new) root.now.0
         → result ≡ Err (EvalFault.Manifest ManifestFault.Missing) }
     // and with `Malformed` where what is held under it is no manifest, memory apart.
     ensures malformed { HasMalformed (S.holds shelf.new) root.now.0
@@ -122,14 +122,14 @@ pub fn evaluate_in<'a, S: Shelf<'a>, T: Sink>(
 ) -> Result<Report, EvalFault>
     // The sink tells its length, to which a refused answer is cut.
     requires { (text : List ℕ) → T.stands sink.old text → length text < 2 ^ 64 - 1 }
-    // The held nodes never change, and what was used stays used.
-    ensures stays { SameNodes (S.holds shelf.old) (S.holds shelf.new) }
+    // What is held stays held, on a fixed shelf just that, and what was used stays used.
+    ensures stays { Stays S.is_fixed (S.holds shelf.old) (S.holds shelf.new) }
     ensures grows { (bytes : List ℕ) → S.used shelf.old bytes → S.used shelf.new bytes }
     ensures kept { T.kept sink.new ≡ T.kept sink.old }
     ensures refused { OnErr result
         ((text : List ℕ) → T.stands sink.old text → T.stands sink.new text) }
     // E4 with `Missing` where no held node has the root.
-    ensures none { HasNone (S.holds shelf.new) root.now.0
+    ensures none { S.is_fixed ≡ true → HasNone (S.holds shelf.new) root.now.0
         → result ≡ Err (EvalFault.Manifest ManifestFault.Missing) }
     // and with `Malformed` where what is held under it is no manifest, memory apart.
     ensures malformed { HasMalformed (S.holds shelf.new) root.now.0
@@ -189,14 +189,14 @@ pub fn evaluate_within<'a, S: Shelf<'a>, T: Sink>(
 ) -> Result<Report, EvalFault>
     // The sink tells its length, to which a refused answer is cut.
     requires { (text : List ℕ) → T.stands sink.old text → length text < 2 ^ 64 - 1 }
-    // The held nodes never change, and what was used stays used.
-    ensures stays { SameNodes (S.holds shelf.old) (S.holds shelf.new) }
+    // What is held stays held, on a fixed shelf just that, and what was used stays used.
+    ensures stays { Stays S.is_fixed (S.holds shelf.old) (S.holds shelf.new) }
     ensures grows { (bytes : List ℕ) → S.used shelf.old bytes → S.used shelf.new bytes }
     ensures kept { T.kept sink.new ≡ T.kept sink.old }
     ensures refused { OnErr result
         ((text : List ℕ) → T.stands sink.old text → T.stands sink.new text) }
     // E4 with `Missing` where no held node has the root.
-    ensures none { HasNone (S.holds shelf.new) root.now.0
+    ensures none { S.is_fixed ≡ true → HasNone (S.holds shelf.new) root.now.0
         → result ≡ Err (EvalFault.Manifest ManifestFault.Missing) }
     // and with `Malformed` where what is held under it is no manifest, memory apart.
     ensures malformed { HasMalformed (S.holds shelf.new) root.now.0
@@ -262,7 +262,7 @@ fn run_within<'a, S: Shelf<'a>, T: Sink>(
     sink: &mut T,
     most: Option<u64>,
 ) -> Result<Report, EvalFault>
-    ensures stays { SameNodes (S.holds shelf.old) (S.holds shelf.new) }
+    ensures stays { Stays S.is_fixed (S.holds shelf.old) (S.holds shelf.new) }
     ensures grows { (bytes : List ℕ) → S.used shelf.old bytes → S.used shelf.new bytes }
     // As each shelf: no two held nodes have one digest, and what was used is held.
     ensures unlike { IsClashFree (S.holds shelf.new) }
@@ -316,7 +316,7 @@ fn run_over<'a, S: Shelf<'a>, T: Sink>(
     tally: &mut Tally,
     meter: &mut Meter,
 ) -> Result<(), EvalFault>
-    ensures stays { SameNodes (S.holds shelf.old) (S.holds shelf.new) }
+    ensures stays { Stays S.is_fixed (S.holds shelf.old) (S.holds shelf.new) }
     ensures grows { (bytes : List ℕ) → S.used shelf.old bytes → S.used shelf.new bytes }
     // As each shelf: no two held nodes have one digest, and what was used is held.
     ensures unlike { IsClashFree (S.holds shelf.new) }

@@ -16,6 +16,7 @@ ghost use Rattle.ql_eval.specs.internal.Narrowing.{IsPassingAs, PassesAll, Passe
 ghost use Rattle.ql_eval.specs.internal.Giving.{AllGiven};
 ghost use Rattle.tree_walk.specs.Uses.{nodes_around};
 
+use crate::announcing::announce_all;
 use crate::fault::EvalFault;
 use crate::lists_in::lists_in;
 use crate::object_test::passes_alone;
@@ -52,6 +53,7 @@ pub(crate) fn filter_by_object<W: Source>(
 {
     let mut refs = Vec::new(alloc);
     let names = candidates.as_slice();
+    announce_all(source, names);
     for name in names {
         add_passing(source, *name, before, after, sets, &mut refs)?;
     }

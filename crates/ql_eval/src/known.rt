@@ -6,7 +6,7 @@ ghost use Rattle.osm_model.specs.Elements.{Element, ref_cmp};
 ghost use Rattle.osm_model.specs.Sets.{object_at};
 ghost use Rattle.tree_node.specs.NodeRefs.{bindings_of};
 ghost use Rattle.tree_node.specs.Outcomes.{Outcome};
-ghost use Rattle.tree_node.specs.Shelves.{SameNodes};
+ghost use Rattle.tree_node.specs.Shelves.{Stays};
 ghost use Rattle.tree_node.specs.declared.tree.Tree.TheVariants.{Objects};
 ghost use Rattle.tree_walk.specs.WalksGiven.{HasGiven};
 ghost use Rattle.osm_keys.specs.Manifests.{top_among};
@@ -48,7 +48,7 @@ pub(crate) fn look_up<'a, S: Shelf<'a>>(
     tally: &mut Tally,
     objects: &mut Known,
 ) -> Result<(), EvalFault>
-    ensures stays { SameNodes (S.holds shelf.old) (S.holds shelf.new) }
+    ensures stays { Stays S.is_fixed (S.holds shelf.old) (S.holds shelf.new) }
     ensures grows { (bytes : List ℕ) → S.used shelf.old bytes → S.used shelf.new bytes }
     ensures walked { OnOk result (HasGiven (top_among manifest.now.tops) HaveForm
         (nodes_around S.holds S.used shelf.old shelf.new)
@@ -85,7 +85,7 @@ fn find_object<'a, S: Shelf<'a>>(
     name: Ref,
     tally: &mut Tally,
 ) -> Result<Option<Object>, EvalFault>
-    ensures stays { SameNodes (S.holds shelf.old) (S.holds shelf.new) }
+    ensures stays { Stays S.is_fixed (S.holds shelf.old) (S.holds shelf.new) }
     ensures grows { (bytes : List ℕ) → S.used shelf.old bytes → S.used shelf.new bytes }
     ensures walked { OnOk result (HasGiven (top_among manifest.now.tops) HaveForm
         (nodes_around S.holds S.used shelf.old shelf.new)

@@ -5,6 +5,7 @@
 //! it in another form than OPL.
 #![tactic(auto)]
 
+mod announcing;
 mod answering;
 mod apply_filters;
 mod boxes;

@@ -15,6 +15,7 @@ ghost use Rattle.ql_eval.specs.internal.Objects.{AreKnownParents, IsKnownParent}
 ghost use Rattle.ql_eval.specs.internal.Giving.{AllGiven};
 ghost use Rattle.tree_walk.specs.Uses.{nodes_around};
 
+use crate::announcing::announce_all;
 use crate::fault::EvalFault;
 use crate::items::add_items;
 use crate::question::Question;
@@ -90,6 +91,7 @@ pub(crate) fn those_there<W: Source>(
         (NeededBy p (From names.now IsObjectAsk))
         (nodes_around W.holds W.used source.old source.new) result }
 {
+    announce_all(source, names);
     let mut there = Vec::new(alloc);
     for name in names {
         add_there(source, *name, &mut there)?;

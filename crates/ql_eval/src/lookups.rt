@@ -3,7 +3,7 @@
 ghost use Rattle.std.specs.Int.{w64};
 ghost use Rattle.std.specs.Prelude.{◌≡◌, ℕ, FitsSigned, IfErr, IfOk, List, OnOk};
 ghost use Rattle.tree_node.specs.Outcomes.{Outcome};
-ghost use Rattle.tree_node.specs.Shelves.{SameNodes};
+ghost use Rattle.tree_node.specs.Shelves.{Stays};
 ghost use Rattle.tree_walk.specs.WalksGiven.{HasGiven};
 ghost use Rattle.osm_keys.specs.Manifests.{top_among};
 ghost use Rattle.osm_keys.specs.Publications.{IsPublication, Publication};
@@ -43,7 +43,7 @@ pub(crate) fn find_names<'a, S: Shelf<'a>>(
     question: &Question<'_>,
     tally: &mut Tally,
 ) -> Result<RefSet, EvalFault>
-    ensures stays { SameNodes (S.holds shelf.old) (S.holds shelf.new) }
+    ensures stays { Stays S.is_fixed (S.holds shelf.old) (S.holds shelf.new) }
     ensures grows { (bytes : List ℕ) → S.used shelf.old bytes → S.used shelf.new bytes }
     ensures walked { OnOk result (HasGiven (top_among manifest.now.tops) HaveForm
         (nodes_around S.holds S.used shelf.old shelf.new)
@@ -71,7 +71,7 @@ pub(crate) fn count_names<'a, S: Shelf<'a>>(
     question: &Question<'_>,
     tally: &mut Tally,
 ) -> Result<u64, EvalFault>
-    ensures stays { SameNodes (S.holds shelf.old) (S.holds shelf.new) }
+    ensures stays { Stays S.is_fixed (S.holds shelf.old) (S.holds shelf.new) }
     ensures grows { (bytes : List ℕ) → S.used shelf.old bytes → S.used shelf.new bytes }
     ensures walked { OnOk result (HasGiven (top_among manifest.now.tops) HaveForm
         (nodes_around S.holds S.used shelf.old shelf.new)

@@ -4,7 +4,7 @@ ghost use Rattle.std.specs.Prelude.{◌≡◌, ◌⊎◌, ℕ, Err, IfErr, IfOk,
 ghost use Rattle.osm_keys.specs.Manifests.{manifest_bytes};
 ghost use Rattle.osm_keys.specs.Publications.{Publication, manifest_of, root_of};
 ghost use Rattle.tree_node.specs.Outcomes.{Outcome};
-ghost use Rattle.tree_node.specs.Shelves.{GrownBy, HasNone, SameNodes};
+ghost use Rattle.tree_node.specs.Shelves.{GrownBy, HasNone, Stays};
 ghost use Rattle.tree_walk.specs.Uses.{nodes_around};
 ghost use Rattle.ql_eval.specs.Openings.{HasMalformed, IsHeldUnder, IsUnder, cause_of_manifest};
 
@@ -49,8 +49,8 @@ pub fn open_manifest<'a, S: Shelf<'a>>(
     root: &Digest,
     shelf: &mut S,
 ) -> Result<Manifest, ManifestFault>
-    // The held nodes never change, and what was used stays used.
-    ensures stays { SameNodes (S.holds shelf.old) (S.holds shelf.new) }
+    // What is held stays held, on a fixed shelf just that, and what was used stays used.
+    ensures stays { Stays S.is_fixed (S.holds shelf.old) (S.holds shelf.new) }
     ensures grows { (bytes : List ℕ) → S.used shelf.old bytes → S.used shelf.new bytes }
     // What it gives is held under the root, and the used nodes grow by just its bytes.
     ensures held { IfOk result (IsHeldUnder (S.holds shelf.new) root.now.0) }
@@ -58,7 +58,8 @@ pub fn open_manifest<'a, S: Shelf<'a>>(
         (λ found. GrownBy (S.used shelf.old) (S.used shelf.new) (manifest_bytes found)) }
     // Each refusal says what the shelf holds, or that it takes memory.
     ensures missing { result ≡ Err ManifestFault.Missing → HasNone (S.holds shelf.new) root.now.0 }
-    ensures none { HasNone (S.holds shelf.new) root.now.0 → result ≡ Err ManifestFault.Missing }
+    ensures none { S.is_fixed ≡ true → HasNone (S.holds shelf.new) root.now.0
+        → result ≡ Err ManifestFault.Missing }
     ensures malformed { result ≡ Err ManifestFault.Malformed
         → HasMalformed (S.holds shelf.new) root.now.0 }
     ensures other { HasMalformed (S.holds shelf.new) root.now.0

@@ -20,6 +20,7 @@ ghost use Rattle.ql_eval.specs.internal.Giving.{AllGiven};
 ghost use Rattle.ql_eval.specs.internal.Metering.{IsBounded, IsCounted, IsSpent};
 ghost use Rattle.tree_walk.specs.Uses.{nodes_around};
 
+use crate::announcing::announce_all;
 use crate::fault::EvalFault;
 use crate::meter::Meter;
 use crate::sink::Sink;
@@ -159,6 +160,7 @@ fn print_objects<W: Source, T: Sink>(
         → IsCounted meter.old.spent meter.new.spent
         (length (lines_at form p.objects mode names.now))) }
 {
+    announce_all(source, names);
     let mut line = Vec::new(alloc);
     for name in names {
         print_object(form, source, meter, *name, mode, &mut line, sink)?;

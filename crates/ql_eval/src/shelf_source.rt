@@ -1,7 +1,7 @@
 //! A shelf as a source, with the objects that were looked up in it.
 
 ghost use Rattle.std.specs.Prelude.{◌≡◌, ℕ, List};
-ghost use Rattle.tree_node.specs.Shelves.{SameNodes};
+ghost use Rattle.tree_node.specs.Shelves.{Stays};
 ghost use Rattle.tree_walk.specs.WalksGiven.{HasGiven};
 ghost use Rattle.osm_keys.specs.Manifests.{top_among};
 ghost use Rattle.ql_eval.specs.Forms.{HaveForm};
@@ -9,6 +9,7 @@ ghost use Rattle.osm_keys.specs.Publications.{Publication};
 ghost use Rattle.ql_eval.specs.Openings.{IsUnder};
 ghost use Rattle.ql_eval.specs.internal.Objects.{Remembers};
 
+use crate::announcing::announce_object;
 use crate::boxes::find_in_box;
 use crate::fault::EvalFault;
 use crate::known::{Known, look_up};
@@ -46,7 +47,7 @@ impl<'s, 'a, S: Shelf<'a>> Source for ShelfSource<'s, 'a, S> {
     ghost use Rattle.osm_model.specs.declared.reference.Ref.{Ref};
     ghost use Rattle.std.proofs.Common.{◌∙◌, ◌⊎◌, inl, inr, subst, sym};
     ghost use Rattle.osm_keys.specs.declared.manifest.Manifest.{Manifest};
-    ghost use Rattle.tree_node.specs.Shelves.{SameNodes};
+    ghost use Rattle.tree_node.specs.Shelves.{Stays};
     ghost use Rattle.tree_walk.specs.WalksGiven.{HasGiven};
     ghost use Rattle.osm_keys.specs.Manifests.{top_among};
     ghost use Rattle.ql_eval.specs.Forms.{HaveForm};
@@ -59,6 +60,8 @@ impl<'s, 'a, S: Shelf<'a>> Source for ShelfSource<'s, 'a, S> {
     ghost use Rattle.tree_walk.proofs.shared.WalksGivenLaws.{given_none, given_then};
 
     ghost holds = { λ o. S.holds o.shelf.now };
+
+    ghost is_fixed = { S.is_fixed };
 
     ghost used = { λ o. S.used o.shelf.now };
 
@@ -78,7 +81,7 @@ impl<'s, 'a, S: Shelf<'a>> Source for ShelfSource<'s, 'a, S> {
         → IsTrueUnder (S.holds o.shelf.now) (S.used o.shelf.now) o.manifest fault };
 
     ghost later = { λ o n. (o.shelf.ghost_name ≡ n.shelf.ghost_name) × (o.manifest ≡ n.manifest)
-        × SameNodes (S.holds o.shelf.now) (S.holds n.shelf.now)
+        × Stays S.is_fixed (S.holds o.shelf.now) (S.holds n.shelf.now)
         × ((bytes : List ℕ) → S.used o.shelf.now bytes → S.used n.shelf.now bytes)
         × ((p : Publication) → IsUnder p o.manifest
         → Remembers p (S.used o.shelf.now) o.objects.now
@@ -103,12 +106,12 @@ impl<'s, 'a, S: Shelf<'a>> Source for ShelfSource<'s, 'a, S> {
     ghost walked = { λ o n. HasGiven (top_among n.manifest.tops) HaveForm (record { held = S.holds n.shelf.now; before = S.used o.shelf.now; after = S.used n.shelf.now })
         o.tally.calls n.tally.calls o.tally.fetches n.tally.fetches };
 
-    ghost itself = { λ o. (refl, refl, (λ x. ((λ has. has), (λ has. has))), (λ x has. has), (λ p under known. known), (λ r object known. known), (λ absent. absent), (λ r given. given), (λ p under known recalled. recalled), (λ r is. is), (λ given. given)) };
+    ghost itself = { λ o. (refl, refl, (λ x. ((λ _ has. has), (λ has. has))), (λ x has. has), (λ p under known. known), (λ r object known. known), (λ absent. absent), (λ r given. given), (λ p under known recalled. recalled), (λ r is. is), (λ given. given)) };
 
     ghost chained = { λ o n m first second. (
       first.0 ∙ second.0,
       first.1 ∙ second.1,
-      (λ x. ((λ has. (first.2 x).0 ((second.2 x).0 has)), (λ has. (second.2 x).1 ((first.2 x).1 has)))),
+      (λ x. ((λ e has. (first.2 x).0 e ((second.2 x).0 e has)), (λ has. (second.2 x).1 ((first.2 x).1 has)))),
       (λ x has. second.3 x (first.3 x has)),
       (λ p under known. second.4 p (subst (λ (m : Manifest). IsUnder p m) first.1 under) (first.4 p under known)),
       (λ r object known. second.5 r object (first.5 r object known)),
@@ -146,6 +149,10 @@ impl<'s, 'a, S: Shelf<'a>> Source for ShelfSource<'s, 'a, S> {
     ghost more_walks = { λ o n m first second one two. given_then (top_among m.manifest.tops) HaveForm _ _ _ _ _ _ _ _ _ _ _ second.2
         (subst (λ (found : Manifest). HasGiven (top_among found.tops) HaveForm
         (record { held = S.holds n.shelf.now; before = S.used o.shelf.now; after = S.used n.shelf.now }) o.tally.calls n.tally.calls o.tally.fetches n.tally.fetches) second.1 one) two };
+
+    fn announce(&mut self, name: Ref) {
+        announce_object(&mut *self.shelf, &self.manifest, name);
+    }
 
     fn look_up(&mut self, name: Ref) -> Result<(), EvalFault> {
         look_up(

@@ -1,12 +1,12 @@
 //! What an evaluation asks.
 
-ghost use Rattle.std.specs.Prelude.{◌≡◌, ◌↔◌, ℕ, IfErr, IfOk, IfSome, List, None, OnOk, Option, Some};
+ghost use Rattle.std.specs.Prelude.{Bool, ◌≡◌, ◌↔◌, ℕ, IfErr, IfOk, IfSome, List, None, OnOk, Option, Some};
 ghost use Rattle.std.specs.Option.{option_copied};
 ghost use Rattle.osm_model.specs.Elements.{Element};
 ghost use Rattle.osm_model.specs.Sets.{object_at};
 ghost use Rattle.osm_model.specs.declared.reference.Ref.{Ref};
 ghost use Rattle.tree_node.specs.Outcomes.{Outcome};
-ghost use Rattle.tree_node.specs.Shelves.{SameNodes};
+ghost use Rattle.tree_node.specs.Shelves.{SameNodes, Stays};
 ghost use Rattle.osm_keys.specs.Publications.{IsPublication, Publication};
 ghost use Rattle.ref_sets.specs.Sets.{IsSetOf};
 ghost use Rattle.ql_meaning.specs.Values.{IsRefOf};
@@ -36,6 +36,9 @@ pub(crate) trait Source {
     /// The nodes that the shelf holds.
     ghost holds: { Self → List ℕ → Type 0 };
 
+    /// Whether they never change.
+    ghost is_fixed: { Bool };
+
     /// Those that were used.
     ghost used: { Self → List ℕ → Type 0 };
 
@@ -59,6 +62,12 @@ pub(crate) trait Source {
 
     /// What is true of the nodes if this fault is told now.
     ghost tells: { Self → EvalFault → Type 0 };
+
+    /// A hint: the object with this reference will be looked up.
+    fn announce(&mut self, name: Ref)
+        ensures later { later self.old self.new }
+        ensures walked { walked self.old self.new }
+        ensures used { SameNodes (used self.old) (used self.new) };
 
     /// Looks up the object with this reference, unless that was done before. Afterwards it is known.
     fn look_up(&mut self, name: Ref) -> Result<(), EvalFault>
@@ -136,7 +145,7 @@ pub(crate) trait Source {
 
     ghost chained: { (s t u : Self) → later s t → later t u → later s u };
 
-    ghost stays: { (s t : Self) → later s t → SameNodes (holds s) (holds t) };
+    ghost stays: { (s t : Self) → later s t → Stays is_fixed (holds s) (holds t) };
 
     ghost grows: { (s t : Self) (bytes : List ℕ) → later s t → used s bytes → used t bytes };
 

@@ -3,7 +3,7 @@
 ghost use Rattle.std.specs.Prelude.{◌≡◌, ℕ, IfErr, IfOk, List, OnOk};
 ghost use Rattle.tree_node.specs.NodeRefs.{bindings_of, number_of};
 ghost use Rattle.tree_node.specs.Outcomes.{Outcome};
-ghost use Rattle.tree_node.specs.Shelves.{SameNodes};
+ghost use Rattle.tree_node.specs.Shelves.{Stays};
 ghost use Rattle.tree_walk.specs.Choices.{AreThose, IsCount};
 ghost use Rattle.tree_walk.specs.Fetches.{cause_of, counted_up};
 ghost use Rattle.tree_walk.specs.Given.{IsWalk, These};
@@ -23,7 +23,7 @@ use std::alloc::Global;
 use tree_node::{Digest, Item, Shelf, Tree};
 use tree_walk::{KeyRange, Tally, WalkFault, count, range};
 
-/// The entries of a tree in a range of keys.
+/// The entries of a tree in a range of keys. The shelf is told first that it will be asked for them.
 pub(crate) fn entries_in<'a, S: Shelf<'a>>(
     alloc: Global,
     shelf: &mut S,
@@ -33,7 +33,38 @@ pub(crate) fn entries_in<'a, S: Shelf<'a>>(
     tally: &mut Tally,
 ) -> Result<Vec<Item<'a>>, WalkFault>
     requires { IsIn (range_of keys.now) keys.now.lo.now }
-    ensures stays { SameNodes (S.holds shelf.old) (S.holds shelf.new) }
+    ensures stays { Stays S.is_fixed (S.holds shelf.old) (S.holds shelf.new) }
+    ensures grows { (bytes : List ℕ) → S.used shelf.old bytes → S.used shelf.new bytes }
+    ensures calls { tally.new.calls ≡ counted_up tally.old.calls 1 }
+    ensures gives { IfOk result (λ found. IsWalk
+        (nodes_around S.holds S.used shelf.old shelf.new)
+        tally.old.fetches tally.new.fetches
+        tree (top_among manifest.now.tops tree) (range_of keys.now)
+        (These (bindings_of found.items))) }
+    ensures told { IfErr result
+        (HasReason (number_of tree) (top_among manifest.now.tops tree)
+        (S.holds shelf.new) (S.used shelf.new)) }
+    ensures answer { (p : Publication) → IsPublication p → IsUnder p manifest.now
+        → Outcome cause_of (λ found. AreThose (IsEntryIn (range_of keys.now)) (p.entries tree)
+        (bindings_of found.items))
+        (NeedsAsk p (Listed tree (range_of keys.now)))
+        (nodes_around S.holds S.used shelf.old shelf.new) result }
+{
+    shelf.announce(top_of(manifest, tree), keys.lo, keys.hi);
+    listed_in(alloc, shelf, manifest, tree, keys, tally)
+}
+
+/// The entries of a tree in a range of keys.
+fn listed_in<'a, S: Shelf<'a>>(
+    alloc: Global,
+    shelf: &mut S,
+    manifest: &Manifest,
+    tree: Tree,
+    keys: &KeyRange<'_>,
+    tally: &mut Tally,
+) -> Result<Vec<Item<'a>>, WalkFault>
+    requires { IsIn (range_of keys.now) keys.now.lo.now }
+    ensures stays { Stays S.is_fixed (S.holds shelf.old) (S.holds shelf.new) }
     ensures grows { (bytes : List ℕ) → S.used shelf.old bytes → S.used shelf.new bytes }
     ensures calls { tally.new.calls ≡ counted_up tally.old.calls 1 }
     ensures gives { IfOk result (λ found. IsWalk
@@ -63,7 +94,7 @@ pub(crate) fn count_in<'a, S: Shelf<'a>>(
     tally: &mut Tally,
 ) -> Result<u64, WalkFault>
     requires { IsIn (range_of keys.now) keys.now.lo.now }
-    ensures stays { SameNodes (S.holds shelf.old) (S.holds shelf.new) }
+    ensures stays { Stays S.is_fixed (S.holds shelf.old) (S.holds shelf.new) }
     ensures grows { (bytes : List ℕ) → S.used shelf.old bytes → S.used shelf.new bytes }
     ensures walked { OnOk result (HasGiven (top_among manifest.now.tops) HaveForm
         (nodes_around S.holds S.used shelf.old shelf.new)
@@ -81,7 +112,7 @@ pub(crate) fn count_in<'a, S: Shelf<'a>>(
 }
 
 /// The digest of a tree's top.
-fn top_of(manifest: &Manifest, tree: Tree) -> &Digest
+pub(crate) fn top_of(manifest: &Manifest, tree: Tree) -> &Digest
     ensures { result.now.0 ≡ top_among manifest.now.tops tree }
 {
     match tree {

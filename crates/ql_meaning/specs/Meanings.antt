@@ -1,7 +1,7 @@
 -- What a query means over a plain list of objects: which sets its statements write, and what it prints.
 -- Source: the Overpass QL page of the OpenStreetMap wiki, "Statements" and "Sets"; that an answer is OPL, that
 -- each out prints by kind and rising id, and which sets a union and a difference take, is this project's.
-use Rattle.std.specs.Prelude.{◌≡◌, ℕ, Bool, List, [], ◌++◌, Option, Some, None, bytes_eq, filter, flat_map, take, if◌then◌else◌, ◌↔◌}
+use Rattle.std.specs.Prelude.{◌≡◌, ℕ, Bool, List, [], ◌++◌, Option, Some, None, filter, flat_map, take}
 use Rattle.std.specs.List.{Contains, list_any}
 use Rattle.std.specs.Ordering.{eq_by_cmp}
 use Rattle.osm_model.specs.Elements.{Element, ref_cmp, reference}

@@ -2,7 +2,7 @@
 -- Source: the Overpass QL page of the OpenStreetMap wiki, "Filters", "Recurse (n, w, r, bn, bw, br)" and
 -- "Recurse (<, <<, >, >>)"; that only objects of the set are given, and what the four recursions take, is this
 -- project's.
-use Rattle.std.specs.Prelude.{◌≡◌, ◌≢◌, ℕ, List, ◌⊎◌, ⊤}
+use Rattle.std.specs.Prelude.{◌≡◌, ◌≢◌, List, ◌⊎◌, ⊤}
 use Rattle.std.specs.List.{AllByRecursion, Contains}
 use Rattle.osm_model.specs.Boxes.{Holds}
 use Rattle.osm_model.specs.Elements.{Element, kind_of, reference}

@@ -1,13 +1,13 @@
 -- What a recursion has found so far.
-use Rattle.std.proofs.Common.{◌≡◌, ℕ, suc, ◌<◌, ◌≤◌, List, [], ◌∷◌, ◌++◌, ◌||◌, length, get_or, not, ◌⊎◌, inl, inr, ◌↔◌, Bool, true, false, refl, sym, ap, subst, ◌∙◌, arith, if◌then◌else◌}
+use Rattle.std.proofs.Common.{◌≡◌, ℕ, suc, ◌<◌, ◌≤◌, List, [], ◌∷◌, ◌++◌, length, get_or, not, ◌⊎◌, inl, inr, ◌↔◌, Bool, true, false, refl, sym, ap, subst, ◌∙◌, arith, if◌then◌else◌}
 use Rattle.std.proofs.lemmas.List.{get_or_append_left, length_push}
 use Rattle.std.proofs.lemmas.List.Elements.{Contains-append_left, Contains-push, Contains-push_cases}
 use Rattle.std.specs.BTreeSet.{BTreeSet, contains}
-use Rattle.std.specs.List.{Contains, list_any}
+use Rattle.std.specs.List.{Contains}
 use Rattle.std.specs.Ordering.{eq_by_cmp}
 use Rattle.osm_model.specs.Elements.{ref_cmp}
 use Rattle.osm_model.specs.declared.reference.Ref.{Ref}
-use Rattle.ref_sets.proofs.shared.Adding.{adds_one, in_rest, first_or_in_rest, here, none}
+use Rattle.ref_sets.proofs.shared.Adding.{adds_one, first_or_in_rest, none}
 use Rattle.ref_sets.proofs.shared.Tests.{has_it, it_is_had}
 use Rattle.ref_sets.proofs.shared.References.{equal_is_same, equal_itself}
 use Rattle.ql_plain.specs.declared.step.Step.{Step}

@@ -1,5 +1,5 @@
 -- The format that a query asks for is what its settings are read as.
-use Rattle.std.proofs.Common.{◌≡◌, ℕ, List, [], Option, refl, sym, ◌∙◌, subst}
+use Rattle.std.proofs.Common.{◌≡◌, ℕ, List, [], Option, refl, sym, subst}
 use Rattle.ql_syntax.specs.Formats.{HasFormat, IsAskedAtFront, Asked, Unread, last_format}
 use Rattle.ql_syntax.specs.Queries.{Reads}
 use Rattle.ql_syntax.specs.Settings.{settings}

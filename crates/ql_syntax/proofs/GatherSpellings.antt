@@ -1,7 +1,7 @@
 -- Lists that are gathered are spelled as rules read them.
 use Rattle.std.proofs.Common.{◌≡◌, ℕ, List, [], ◌∷◌, ◌++◌, Option, None, Some, refl, sym, ◌∙◌, ap, subst, append_assoc, append-nil}
 use Rattle.std.specs.List.{AllByRecursion}
-use Rattle.ql_syntax.specs.Rules.{Rule, ◌>>=◌, give, repeat, gather, gather_round, gathered, Round, More, Done, RoundsRead, Last}
+use Rattle.ql_syntax.specs.Rules.{Rule, ◌>>=◌, give, repeat, gather, gather_round, gathered, More, Done, RoundsRead, Last}
 use Rattle.ql_syntax.specs.Rules as rounds
 use Rattle.ql_syntax.specs.Spellings.{Spelling, each}
 use Rattle.ql_syntax.proofs.SpellingLemmas.{both, Reading}

@@ -3,7 +3,7 @@ use Rattle.std.proofs.Common.{◌≡◌, ℕ, List, [], ◌∷◌, ◌++◌, Opt
 use Rattle.std.specs.List.{AllByRecursion}
 use Rattle.osm_model.proofs.shared.Each.{all_append}
 use Rattle.ql_syntax.specs.TokenRules.{Next, unexpected}
-use Rattle.ql_syntax.specs.Rules.{Rule, ◌>>=◌, give, refuse, from, choose, by_case, repeat, gather, gather_round, gathered, Round, More, Done, RoundsRead, Last}
+use Rattle.ql_syntax.specs.Rules.{Rule, ◌>>=◌, give, refuse, from, choose, by_case, repeat, gather, gather_round, gathered, More, Done, RoundsRead, Last}
 use Rattle.ql_syntax.specs.Rules as rounds
 use Rattle.ql_syntax.specs.declared.cause.QlCause.{QlCause}
 

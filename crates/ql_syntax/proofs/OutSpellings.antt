@@ -8,7 +8,7 @@ use Rattle.ql_syntax.specs.Grammar as grammar
 use Rattle.ql_syntax.specs.OutWords.{out_word}
 use Rattle.ql_syntax.specs.Outs.{once, out_word_at, with_word, with_number, out_round, out_options}
 use Rattle.ql_syntax.specs.TokenRules.{Number, next_token, unexpected, begins_number}
-use Rattle.ql_syntax.specs.Rules.{Rule, ◌>>=◌, give, refuse, choose, by_case, repeat, Round, More, Done, RoundsRead, Last}
+use Rattle.ql_syntax.specs.Rules.{Rule, ◌>>=◌, give, refuse, choose, by_case, repeat, More, Done, RoundsRead, Last}
 use Rattle.ql_syntax.specs.Rules as rounds
 use Rattle.ql_syntax.specs.Spellings.{Spelling, Both, ◌&◌, when, nothing, in_any_order, says}
 use Rattle.ql_syntax.specs.WholeNumbers.{IsCount, count_of}

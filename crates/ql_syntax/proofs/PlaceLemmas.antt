@@ -2,7 +2,7 @@
 use Rattle.std.proofs.Common.{◌≡◌, ℕ, zero, suc, ◌-◌, ◌+◌, List, [], ◌∷◌, ◌++◌, Bool, true, false, cond, ◌==◌, ◌&&◌, Option, length, drop, refl, sym, ◌∙◌, ap, subst, inl, inr, arith, append_assoc, length-append}
 use Rattle.ql_syntax.specs.Gaps.{gap, is_blank, Where, Between, InLine, InBlock, GapEnd, After, Open}
 use Rattle.ql_syntax.specs.TokenRules.{Next, unexpected, next_token}
-use Rattle.ql_syntax.specs.Rules.{Rule, ◌>>=◌, give, refuse, from, choose, by_case, repeat, gather, gather_round, gathered, Round, More, Done, RoundsRead, RoundsStop, Last, Here, Later, First, Second}
+use Rattle.ql_syntax.specs.Rules.{Rule, ◌>>=◌, give, refuse, from, choose, by_case, repeat, gather, gather_round, Round, More, Done, RoundsRead, RoundsStop, Last, Here, Later, First, Second}
 use Rattle.ql_syntax.specs.Rules as rounds
 use Rattle.ql_syntax.specs.TokenKinds.{punctuation_len}
 use Rattle.ql_syntax.specs.Tokens.{unexpected_cause}

@@ -7,7 +7,7 @@ use Rattle.ql_syntax.specs.Numbers.{IsMisfit, IsNoNumber}
 use Rattle.ql_syntax.specs.Outs.{once, out_word_at, with_word, with_number, out_round, out_options}
 use Rattle.ql_syntax.specs.TokenRules.{Next, Word, Number, pass, run_here, word_at, a_word, number_here, number_at, a_number, name_after, a_name, into, text_here}
 use Rattle.ql_syntax.specs.Queries.{query}
-use Rattle.ql_syntax.specs.QuotedTexts.{IsQuoted, IsNotQuoted, StopsInside, AtEnd, InEscape, AtEscape, AtNul}
+use Rattle.ql_syntax.specs.QuotedTexts.{StopsInside, AtEnd, InEscape, AtEscape, AtNul}
 use Rattle.ql_syntax.specs.QuotedTexts as quoted
 use Rattle.ql_syntax.specs.Rules.{Rule}
 use Rattle.ql_syntax.specs.Selections.{a_filter, selection}

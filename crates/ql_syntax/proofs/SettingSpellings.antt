@@ -6,7 +6,7 @@ use Rattle.osm_model.specs.Degrees.{Decimal}
 use Rattle.ql_syntax.specs.Formats.{format_word, asking, setting_asking, settings_asking, last_format}
 use Rattle.ql_syntax.specs.Grammar as grammar
 use Rattle.ql_syntax.specs.TokenRules.{Word, next_token, pass, unexpected, a_word}
-use Rattle.ql_syntax.specs.Rules.{Rule, ◌>>=◌, give, refuse, from, choose, by_case, repeat, Round, More, Done, RoundsRead, Last}
+use Rattle.ql_syntax.specs.Rules.{◌>>=◌, give, refuse, from, choose, by_case, repeat, More, Done, RoundsRead, Last}
 use Rattle.ql_syntax.specs.Rules as rounds
 use Rattle.ql_syntax.specs.SettingWords.{setting_of, format_of}
 use Rattle.ql_syntax.specs.Settings.{format_named, format, count, setting_named, setting_value, setting, setting_round, settings}

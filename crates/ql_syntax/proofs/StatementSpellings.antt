@@ -11,7 +11,7 @@ use Rattle.ql_syntax.specs.Rules as rounds
 use Rattle.ql_syntax.specs.Selections.{selection}
 use Rattle.ql_syntax.specs.TokenKinds.{punctuation_len}
 use Rattle.ql_syntax.specs.Spellings as spelling
-use Rattle.ql_syntax.specs.Spellings.{Spelling, Both, each, says, word, named_set, the_end}
+use Rattle.ql_syntax.specs.Spellings.{Both, each, says, word, named_set, the_end}
 use Rattle.ql_syntax.specs.StatementRules.{recursion_of, recursion, item, out_of, print_at, print, statement_named, word_statement, set_statement_named, set_word_statement, recursion_or_item, set_statement, recursion_at, plain_statement, part, union, difference, block, statement, top_statement}
 use Rattle.ql_syntax.specs.StatementWords.{statement_word}
 use Rattle.ql_syntax.specs.Statements.{Statement, Select, Union, row_of}

@@ -1,7 +1,7 @@
 -- Rules that read each text or stop at it.
 use Rattle.std.proofs.Common.{ℕ, zero, suc, ◌<◌, List, Option, None, Some, length, arith, refl, ap, subst, inl, inr, ◌⊎◌}
 use Rattle.ql_syntax.specs.TokenRules.{Next, unexpected}
-use Rattle.ql_syntax.specs.Rules.{Rule, ◌>>=◌, First, Second, give, refuse, from, choose, by_case, repeat, Round, More, Done, RoundsRead, RoundsStop, Last, Here, Later, gather, gather_round, gathered}
+use Rattle.ql_syntax.specs.Rules.{Rule, ◌>>=◌, First, Second, give, refuse, from, choose, by_case, repeat, Round, More, Done, Last, Here, Later, gather, gather_round, gathered}
 use Rattle.ql_syntax.specs.Rules as rounds
 use Rattle.ql_syntax.specs.declared.cause.QlCause.{QlCause}
 use Rattle.ql_syntax.proofs.Lengths.{Shorter}

@@ -5,6 +5,7 @@ mod leaving;
 mod mirror;
 mod patience;
 mod plug;
+mod readiness;
 mod sockets;
 mod talk;
 

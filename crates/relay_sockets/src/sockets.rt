@@ -4,6 +4,7 @@ use crate::leaving::Leaving;
 use crate::mirror::Mirror;
 use crate::patience::{LINGER_LIMIT, SWEEP_MILLISECONDS};
 use crate::plug::Plug;
+use crate::readiness::Readiness;
 use crate::talk::Talk;
 use loopback_listener::{LISTENER, Listener, NotTaken, RETRY_MILLISECONDS};
 use mio::net::TcpStream;
@@ -12,17 +13,21 @@ use mirror_reply::is_host;
 use osm_relay::{Awaits, CONVERSATION_LIMIT, Network, News, RelayFault, Room, Turn};
 use std::collections::VecDeque;
 use std::io;
-use std::net::{Shutdown, SocketAddr};
+use std::net::SocketAddr;
 use std::time::{Duration, Instant};
 
 /// How many events one wait takes.
 const EVENTS: usize = 256;
 
+/// How many turns a round may always have. Asking the system after each would cost as much as the turn itself.
+const TURNS: usize = 16;
+
 /// A socket that listens for clients of this machine (127.0.0.1), and the mirrors that are asked for them.
 ///
-/// An event of the system only puts the conversation into a queue. Each that stands there has its turn, one read or write,
-/// before the system is asked again: so none keeps the others waiting for longer than a round. A conversation stays in the
-/// queue until a turn moves nothing.
+/// An event of the system only puts the conversation into a queue, if it tells of what the conversation waits for. A turn is
+/// one read or write. In a round each that stood in the queue has its turn, and there are up to 16 turns even if fewer stood
+/// there; then new clients are taken and the system is asked again: so none keeps the others waiting for longer than a round.
+/// A conversation stays in the queue until a turn moves nothing, or until it waits for a side that may have sent nothing yet.
 ///
 /// A client may send nothing for 10 seconds, and has 60 seconds for its request; it has to take its response at 1 MiB in 10
 /// seconds at least. A mirror may send and take nothing for 60 seconds, and has 60 seconds for its response and 10 more for
@@ -38,7 +43,7 @@ pub struct Sockets<'a> {
     leaving: Vec<Leaving>,
     /// Those that may go on, each once.
     queue: VecDeque<u32>,
-    /// How many of the queue are told of before the system is asked again.
+    /// How many turns are left of this round.
     round: usize,
     /// The time, as it was last asked for.
     now: Instant,
@@ -101,13 +106,22 @@ impl<'a> Sockets<'a> {
                 continue;
             }
             let Token(token) = event.token();
+            let is_client = token % 2 == 0;
+            let readiness = Readiness::of(event);
             if let Some(talk) = find(&mut self.talks, token / 2) {
-                enqueue(&mut self.queue, talk)?;
-            } else if token % 2 == 0 {
+                let goes_on = if is_client {
+                    talk.hear_client(readiness)
+                } else {
+                    talk.hear_mirror(readiness)
+                };
+                if goes_on {
+                    enqueue(&mut self.queue, talk)?;
+                }
+            } else if is_client && readiness.reads {
                 read_on(&mut self.leaving, token / 2);
             }
         }
-        self.round = self.queue.len();
+        self.round = self.queue.len().max(TURNS);
         Ok(())
     }
 
@@ -129,12 +143,17 @@ impl<'a> Sockets<'a> {
         Duration::from_millis(SWEEP_MILLISECONDS)
     }
 
-    /// The next of the queue that is still open.
+    /// The next of the queue that is still open, if the round goes on.
     fn next_in_queue(&mut self) -> Option<u32> {
-        let number = self.queue.pop_front()?;
-        let talk = find(&mut self.talks, number as usize)?;
-        talk.is_queued = false;
-        Some(number)
+        for _ in 0..self.round {
+            let number = self.queue.pop_front()?;
+            self.round = self.round.saturating_sub(1);
+            if let Some(talk) = find(&mut self.talks, number as usize) {
+                talk.is_queued = false;
+                return Some(number);
+            }
+        }
+        None
     }
 
     /// A conversation of which what it waits for has taken too long, if there is one.
@@ -166,7 +185,7 @@ impl<'a> Sockets<'a> {
             .registry()
             .register(&mut stream, Token(token), both)
         {
-            Ok(()) => Some(Plug { stream }),
+            Ok(()) => Some(Plug::new(stream)),
             Err(_) => None,
         }
     }
@@ -179,12 +198,8 @@ impl<'a> Network<Plug> for Sockets<'a> {
 
     fn next(&mut self, room: Room) -> Result<News, RelayFault> {
         for _ in 0..u64::MAX {
-            if self.round > 0 {
-                self.round -= 1;
-                if let Some(number) = self.next_in_queue() {
-                    return Ok(News::Ready(number));
-                }
-                continue;
+            if let Some(number) = self.next_in_queue() {
+                return Ok(News::Ready(number));
             }
             if room == Room::Free
                 && self.listener.is_waiting()
@@ -226,6 +241,9 @@ impl<'a> Network<Plug> for Sockets<'a> {
     }
 
     fn dial(&mut self, number: u32, mirror: usize) -> Option<Plug> {
+        if let Some(talk) = find(&mut self.talks, number as usize) {
+            talk.dial();
+        }
         let mirror = self.mirrors.get(mirror)?;
         let Ok(stream) = TcpStream::connect(self.rt, mirror.address) else {
             return None;
@@ -247,14 +265,17 @@ impl<'a> Network<Plug> for Sockets<'a> {
     }
 
     /// Tells the client that nothing more comes, and reads on until it closes its side too.
-    fn let_go(&mut self, number: u32, client: Plug, whole: bool) {
+    fn let_go(&mut self, number: u32, mut client: Plug, whole: bool) {
+        let mut is_silent = client.is_drained();
         if let Some(at) = self.talks.iter().position(|talk| talk.number == number) {
-            self.talks.swap_remove(at);
+            let talk = self.talks.swap_remove(at);
+            is_silent = is_silent && !talk.is_client_heard;
         }
         let is_room = self.leaving.len() < LINGER_LIMIT;
-        if whole && is_room && client.stream.shutdown(Shutdown::Write).is_ok() {
+        if whole && is_room && client.end() {
             let mut leaving = Leaving::new(number, client, self.now);
-            if leaving.read_on() {
+            // Where there is nothing to read yet, the system tells once there is.
+            if is_silent || leaving.read_on() {
                 let _ = self.leaving.push(leaving);
             }
         }

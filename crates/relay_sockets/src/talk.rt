@@ -3,6 +3,7 @@
 use crate::patience::{
     IDLE_SECONDS, MIRROR_IDLE_SECONDS, MIRROR_PACE_BYTES, PACE_BYTES, REQUEST_SECONDS,
 };
+use crate::readiness::Readiness;
 use osm_relay::{Awaits, Turn};
 use std::time::{Duration, Instant};
 
@@ -19,6 +20,10 @@ pub(crate) struct Talk {
     moved: u64,
     /// It stands in the queue of those that may go on.
     pub(crate) is_queued: bool,
+    /// The system has told of something to read at the mirror since it was dialled.
+    is_mirror_heard: bool,
+    /// The system has told of something to read at the client that may not have been read.
+    pub(crate) is_client_heard: bool,
 }
 
 impl Talk {
@@ -31,24 +36,62 @@ impl Talk {
             heard: now,
             moved: 0,
             is_queued: false,
+            is_mirror_heard: false,
+            is_client_heard: false,
         }
     }
 
     /// Notes what a turn did, and what it waits for now. Says whether it may go on at once.
     pub(crate) fn note(&mut self, awaits: Awaits, turn: Turn, now: Instant) -> bool {
-        if awaits != self.awaits {
-            self.awaits = awaits;
+        if !is_same_side(awaits, self.awaits) {
             self.since = now;
             self.heard = now;
             self.moved = 0;
         }
+        self.awaits = awaits;
         match turn {
             Turn::Moved(count) => {
                 self.heard = now;
                 self.moved = self.moved.saturating_add(count as u64);
-                true
+                match awaits {
+                    // A client that has just come, and a mirror that was just asked, may have sent nothing: the system
+                    // tells once they have.
+                    Awaits::Request => count > 0,
+                    Awaits::Reply => self.is_mirror_heard,
+                    Awaits::Mirror | Awaits::Client | Awaits::Nothing => true,
+                }
             }
             Turn::Waits => false,
+        }
+    }
+
+    /// A mirror is dialled.
+    pub(crate) fn dial(&mut self) {
+        self.is_mirror_heard = false;
+    }
+
+    /// Notes what the system tells of the client's socket, and says whether the conversation may go on.
+    pub(crate) fn hear_client(&mut self, readiness: Readiness) -> bool {
+        match self.awaits {
+            Awaits::Request => {
+                // The bytes are read now, but the end of the stream stays to be read.
+                self.is_client_heard = self.is_client_heard || readiness.ends;
+                readiness.reads
+            }
+            Awaits::Client | Awaits::Mirror | Awaits::Reply | Awaits::Nothing => {
+                self.is_client_heard = self.is_client_heard || readiness.reads;
+                self.awaits == Awaits::Client && readiness.writes
+            }
+        }
+    }
+
+    /// Notes what the system tells of the mirror's socket, and says whether the conversation may go on.
+    pub(crate) fn hear_mirror(&mut self, readiness: Readiness) -> bool {
+        self.is_mirror_heard = self.is_mirror_heard || readiness.reads;
+        match self.awaits {
+            Awaits::Mirror => readiness.writes,
+            Awaits::Reply => readiness.reads,
+            Awaits::Request | Awaits::Client | Awaits::Nothing => false,
         }
     }
 
@@ -73,12 +116,20 @@ impl Talk {
                     || waited >= allowed(IDLE_SECONDS, self.moved / PACE_BYTES)
             }
             // One that gives a byte now and then would hold a place for ever.
-            Awaits::Mirror => {
+            Awaits::Mirror | Awaits::Reply => {
                 idle >= Duration::from_secs(MIRROR_IDLE_SECONDS)
                     || waited >= allowed(MIRROR_IDLE_SECONDS, self.moved / MIRROR_PACE_BYTES)
             }
             Awaits::Nothing => idle >= Duration::from_secs(IDLE_SECONDS),
         }
+    }
+}
+
+/// Whether it waits for the same side: a mirror has one time for its request and its response.
+fn is_same_side(one: Awaits, other: Awaits) -> bool {
+    match one {
+        Awaits::Mirror | Awaits::Reply => matches!(other, Awaits::Mirror | Awaits::Reply),
+        Awaits::Request | Awaits::Client | Awaits::Nothing => one == other,
     }
 }
 

@@ -24,11 +24,9 @@ use tree_node::{Digest, Stock, Tree};
 /// the nodes, each made with just the room that its bytes need, and of one item for each node of the two
 /// levels in hand. In the second shape it digests each key at most once.
 ///
-/// Refused with `Clash` (N6) only where a node of the tree has the digest of a different node, of the
-/// tree or of the stock, and else with `Memory` alone; where there is such a clash it is never built.
-/// After a refusal the stock holds what it held and
-/// perhaps some nodes of the tree, each under its own digest; a later call with these entries builds
-/// the rest.
+/// Refused with `Clash` (N6) only if a node of the tree has the same digest as a different node of the tree or of the
+/// stock, and else only with `Memory`. A tree with such a clash is never built. After a refusal the stock holds what it
+/// held, and perhaps some nodes of the tree, each under its own digest; a later call with these entries builds the rest.
 pub fn build(
     alloc: Global,
     entries: &[Entry<'_>],

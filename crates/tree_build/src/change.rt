@@ -5,6 +5,6 @@
 pub struct EntryChange {
     /// The key of the entry that is put or taken away.
     pub key: Vec<u8>,
-    /// What is put under the key, in place of what is there; with none the key is taken away.
+    /// The new value of the key; `None` removes the key.
     pub value: Option<Vec<u8>>,
 }

@@ -25,10 +25,10 @@ use crate::rebuilt::Rebuilt;
 use crate::shrink_top::{Top, shrink_top};
 use crate::step::LevelEdit;
 use std::alloc::{AllocError, Global};
-use tree_node::{Digest, NewNode, Shelf, Tree};
+use tree_node::{Digest, FixedShelf, NewNode, Tree};
 
 /// The new tree's top, and what it has gained and lost.
-pub(crate) fn finish<'a, 'c, S: Shelf<'a>>(
+pub(crate) fn finish<'a, 'c, S: FixedShelf<'a>>(
     alloc: Global,
     shelf: &mut S,
     tree: Tree,
@@ -68,7 +68,7 @@ pub(crate) fn finish<'a, 'c, S: Shelf<'a>>(
 /// The top of the new tree over these levels. It is the old one, where the last of them is as it was. Else
 /// the last has all nodes of its level as new ones: the levels above it are made, or the tree loses levels.
 /// Without entries it gets the leaf without entries.
-fn find_top<'a, 'c, S: Shelf<'a>>(
+fn find_top<'a, 'c, S: FixedShelf<'a>>(
     alloc: Global,
     shelf: &mut S,
     tree: Tree,

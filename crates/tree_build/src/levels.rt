@@ -18,7 +18,7 @@ use crate::level_item::ItemChange;
 use crate::parent_changes::parent_changes;
 use crate::step::{LevelEdit, OldLevel, change_level};
 use std::alloc::{AllocError, Global};
-use tree_node::{Child, Digest, Shelf, Tree};
+use tree_node::{Child, Digest, FixedShelf, Tree};
 
 /// How the levels of a tree change.
 #[derive(Drop)]
@@ -31,7 +31,7 @@ pub(crate) struct TreeEdit<'c> {
 
 /// Changes the levels of a tree, from the leaves up to the top's level, or to the first one that is as
 /// it was.
-pub(crate) fn change_levels<'a, S: Shelf<'a>>(
+pub(crate) fn change_levels<'a, S: FixedShelf<'a>>(
     alloc: Global,
     shelf: &mut S,
     tree: Tree,

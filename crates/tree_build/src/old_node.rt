@@ -9,7 +9,7 @@ ghost use Rattle.tree_node.specs.Shelves.{SameNodes};
 ghost use Rattle.tree_node.specs.Trees.{greatest_of};
 
 use std::alloc::AllocError;
-use tree_node::{Digest, Fetched, NodeRef, Shelf, ShelfFault};
+use tree_node::{Digest, Fetched, FixedShelf, NodeRef, ShelfFault};
 
 /// A node of the old tree.
 #[derive(Clone, Copy)]
@@ -30,7 +30,7 @@ pub(crate) struct OpenNode<'a> {
 }
 
 /// The node with this digest, which the shelf holds.
-pub(crate) fn fetch_held<'a, S: Shelf<'a>>(
+pub(crate) fn fetch_held<'a, S: FixedShelf<'a>>(
     shelf: &mut S,
     key: &Digest,
 ) -> Result<OpenNode<'a>, AllocError>

@@ -12,7 +12,7 @@ use crate::levels::change_levels;
 use crate::old_node::{fetch_held, level_in};
 use crate::rebuilt::Rebuilt;
 use std::alloc::{AllocError, Global};
-use tree_node::{Digest, Shelf};
+use tree_node::{Digest, FixedShelf};
 
 /// The tree of the second shape over a changed list, from the nodes of the old tree and the changes (this
 /// project's trees, docs/FORMATS.md): the digest of its top, the nodes that it has and the old tree
@@ -23,13 +23,13 @@ use tree_node::{Digest, Shelf};
 /// changed list has a tree. The changes are borrowed for as long as the bytes that the shelf gives. Without
 /// changes it gives the old tree's top, and fetches nothing.
 ///
-/// It fetches the nodes on the ways from the top to the changes' keys, and beyond them only nodes that
-/// are gone, each as often as it goes by: its time grows with the changes and the nodes that change, times
-/// the levels of the tree, and not with the tree. It takes the memory of the nodes that change.
+/// It fetches the nodes on the paths from the top to the changed keys, and otherwise only nodes that are gone, some of
+/// them more than once. Its time grows with the number of changes and of changed nodes, times the number of levels, and
+/// not with the size of the tree. It allocates memory for the nodes that change.
 ///
 /// Refused only where memory was refused, of this call or of the shelf. Then nothing is told, and the
 /// shelf may have given some nodes; a later call starts anew.
-pub fn rebuild<'a, S: Shelf<'a>>(
+pub fn rebuild<'a, S: FixedShelf<'a>>(
     alloc: Global,
     shelf: &mut S,
     top: &Digest,

@@ -11,7 +11,7 @@ ghost use Rattle.tree_build.specs.internal.Seeking.{IsSought, Reaches};
 
 use crate::old_node::{OpenNode, fetch_held, level_in};
 use std::alloc::AllocError;
-use tree_node::{Child, Children, Digest, NodeRef, Shelf, is_below};
+use tree_node::{Child, Children, Digest, FixedShelf, NodeRef, is_below};
 
 /// Whether a key reaches the one that is wanted: isn't below it, or, where what lies above that one is
 /// wanted, is above it.
@@ -81,7 +81,7 @@ fn are_both(left: bool, right: bool) -> bool
 
 /// The first node of the level whose greatest key reaches the wanted key, or the last one; and whether it
 /// is the last. It goes down from the top, and fetches just the nodes that it goes by.
-pub(crate) fn seek<'a, S: Shelf<'a>>(
+pub(crate) fn seek<'a, S: FixedShelf<'a>>(
     shelf: &mut S,
     top: &Digest,
     level: u8,

@@ -16,7 +16,7 @@ ghost use Rattle.tree_node.specs.Trees.{Two};
 use crate::old_node::fetch_held;
 use crate::step::LevelEdit;
 use std::alloc::AllocError;
-use tree_node::{Digest, NodeRef, Shelf};
+use tree_node::{Digest, FixedShelf, NodeRef};
 
 /// The top of a new tree.
 #[derive(Clone, Copy)]
@@ -27,7 +27,7 @@ pub(crate) struct Top {
 
 /// The top of the new tree: from the one node of the last level down to the first that is a leaf or has
 /// two children. The nodes that it goes by and that aren't new are told as gone.
-pub(crate) fn shrink_top<'a, 'c, S: Shelf<'a>>(
+pub(crate) fn shrink_top<'a, 'c, S: FixedShelf<'a>>(
     shelf: &mut S,
     edits: &[LevelEdit<'c>],
     digest: &Digest,
@@ -78,7 +78,7 @@ fn push_stayed(
 }
 
 /// The digest of the only child of the one node of a level, which has this digest.
-fn only_child_at<'a, 'c, S: Shelf<'a>>(
+fn only_child_at<'a, 'c, S: FixedShelf<'a>>(
     shelf: &mut S,
     edit: &LevelEdit<'c>,
     digest: &Digest,

@@ -22,7 +22,7 @@ use crate::open_piece::{close, cut};
 use crate::piece::NewPiece;
 use crate::seek::seek;
 use std::alloc::{AllocError, Global};
-use tree_node::{Digest, Shelf, Tree, is_below};
+use tree_node::{Digest, FixedShelf, Tree, is_below};
 
 /// How one level changes.
 #[derive(Drop)]
@@ -55,7 +55,7 @@ struct LevelWork<'c, T> {
 
 /// Changes a level of a tree: opens the nodes that the changes fall in, and cuts their items anew, each
 /// time from the start of a node until an old cut is met.
-pub(crate) fn change_level<'a, S: Shelf<'a>, T: LevelItem<'a>>(
+pub(crate) fn change_level<'a, S: FixedShelf<'a>, T: LevelItem<'a>>(
     alloc: Global,
     shelf: &mut S,
     place: OldLevel,

@@ -1,5 +1,4 @@
--- How a call ends that reads nodes from a shelf, of which it needs some: what the shelf gained, why the call was refused,
--- and when two nodes clash.
+-- How a call that reads nodes from a shelf ends: which nodes it used, why it was refused, and when two nodes clash.
 -- Source: this project.
 use Rattle.std.specs.Prelude.{◌≡◌, ◌≢◌, ℕ, List, ◌⊎◌, ◌↔◌, Result, Ok, Err, ⊤}
 use Rattle.tree_node.specs.Digests.{digest}
@@ -8,12 +7,11 @@ use Rattle.tree_node.specs.Digests.{digest}
 abbrev pub Clash : (List ℕ → Type 0) → (List ℕ → Type 0) → Type 0
 Clash These Those = (a b : List ℕ) × These a × Those b × (a ≢ b) × (digest a ≡ digest b)
 
--- the set has gained just these nodes, those of them that it hadn't
+-- the new set is the old one and these nodes
 abbrev pub GrownByAll : (List ℕ → Type 0) → (List ℕ → Type 0) → (List ℕ → Type 0) → Type 0
 GrownByAll old new gained = (bytes : List ℕ) → new bytes ↔ (old bytes ⊎ gained bytes)
 
--- the nodes of a shelf around a call: those that it holds, which never change, and those that were used before the call
--- and after it
+-- the nodes of a shelf around a call: those that it holds after the call, and those that were used before and after it
 pub record ShelfUse : Type 1 where
   pub held : List ℕ → Type 0
   pub before : List ℕ → Type 0
@@ -37,7 +35,7 @@ abbrev pub EndsBy : {A F : Type 0} → (F → Cause) → (A → Type 0) → (Lis
 EndsBy cause_of Is needed shelf (Ok value) = Is value × GrownByAll shelf.before shelf.after needed
 EndsBy cause_of Is needed shelf (Err fault) = RefusedFor needed shelf.held (cause_of fault)
 
--- it ends so, unless a needed node and a different used one have one digest
+-- the call ends as `EndsBy` says, unless a needed node and a different used one have the same digest
 pub record Outcome {A F : Type 0} (cause_of : F → Cause) (Is : A → Type 0) (needed : List ℕ → Type 0) (shelf : ShelfUse) (result : Result A F) : Type 0 where
   pub ends : Clash needed shelf.after ⊎ EndsBy cause_of Is needed shelf result
 

@@ -2,7 +2,7 @@
 
 ghost use Rattle.std.specs.List.{All, HoldsAt};
 ghost use Rattle.std.specs.Prelude.{◌≡◌, ◌≢◌, ◌<◌, ◌↔◌, ℕ, List};
-ghost use Rattle.std.specs.Prelude.{IfNone, IfOk, IfSome, IsTrue, false, length};
+ghost use Rattle.std.specs.Prelude.{IfNone, IfOk, IfSome, IsTrue, false, length, true};
 ghost use Rattle.tree_node.specs.Digests.{digest as digest_word};
 ghost use Rattle.tree_node.specs.Parts.{HaveNode, HaveRisingDigests, node_of};
 ghost use Rattle.tree_node.specs.Shelves.{IsEmptySet, SameNodes};
@@ -12,7 +12,7 @@ use crate::fetched::Fetched;
 use crate::node::NodeRef;
 use crate::order::order_of;
 use crate::part::Part;
-use crate::shelf::{Shelf, ShelfFault};
+use crate::shelf::{FixedShelf, Shelf, ShelfFault};
 use std::alloc::{AllocError, Global};
 use std::cmp::Ordering;
 
@@ -54,7 +54,7 @@ impl<'a> Bag<'a> {
         true
     }
 
-    /// The place of the part with this digest, by halves.
+    /// The place of the part with this digest, found by binary search.
     fn find(&self, key: &Digest) -> Option<usize>
         ensures found { IfSome result (λ k. (k < length self.now.parts.items)
             × HoldsAt (λ p. digest_word (node_of p) ≡ key.now.0) self.now.parts.items k) }
@@ -81,6 +81,8 @@ impl<'a> Shelf<'a> for Bag<'a> {
     ghost holds = { BagHolds };
 
     ghost used = { BagUsed };
+
+    ghost is_fixed = { true };
 
     ghost takes_memory = { false };
 
@@ -112,4 +114,13 @@ impl<'a> Shelf<'a> for Bag<'a> {
             Err(fault) => Err(fault),
         }
     }
+
+    /// It takes no hint.
+    fn announce(&mut self, _top: &Digest, _lo: &[u8], _hi: &[u8]) {}
+}
+
+impl<'a> FixedShelf<'a> for Bag<'a> {
+    ghost use Rattle.std.specs.Prelude.{refl};
+
+    ghost fixed = { refl };
 }

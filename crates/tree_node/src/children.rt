@@ -93,8 +93,8 @@ impl<'a> Children<'a> {
         }
     }
 
-    /// The children from the first one on whose greatest key isn't below this one, and the greatest key
-    /// of the one before it, where there is one.
+    /// Skips the children whose greatest keys are below this one, and gives the greatest key of the last child that it
+    /// skipped, if any.
     pub fn skip_below(self, key: &[u8]) -> (Option<&'a [u8]>, Children<'a>)
         ensures before { option_copied result.0 ≡ key_before (λ (link : Link). link.greatest) key.now None self.entry }
         ensures children { result.1 ≡ from_key (λ (link : Link). link.greatest) key.now self.entry }

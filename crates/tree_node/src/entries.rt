@@ -89,7 +89,7 @@ impl<'a> Entries<'a> {
         }
     }
 
-    /// The entries from the first one on whose key isn't below this one.
+    /// Skips the entries whose keys are below this one.
     pub fn skip_below(self, key: &[u8]) -> Entries<'a>
         ensures { result ≡ from_key (λ (entry : Binding). entry.key) key.now self.entry }
     {

@@ -44,7 +44,7 @@ pub use node::NodeRef;
 pub use order::{is_above, is_below};
 pub use part::Part;
 pub use recorder::Recorder;
-pub use shelf::{Shelf, ShelfFault};
+pub use shelf::{FixedShelf, Shelf, ShelfFault};
 pub use spelling::spelling_law;
 pub use stock::{PutFault, Stock};
 pub use tree::Tree;

@@ -139,8 +139,8 @@ impl<'a> NodeRef<'a> {
 /// Prefetches a node's first 64 kibibytes, and gives 0: it reads one byte of each cache line, and divides their sum
 /// by more than it can come to.
 ///
-/// Where an item begins is known from the item before it alone. So without this the lines of a node that
-/// isn't in the cache are loaded one after the other; here they are loaded side by side.
+/// The start of an item is known only from the item before it. So without this call the cache lines of a node would be
+/// loaded one after another; here they are loaded in parallel.
 fn prefetch(bytes: &[u8]) -> u16
     ensures { result ≡ 0 }
 {

@@ -13,7 +13,7 @@ use crate::fetched::Fetched;
 use crate::given::Given;
 use crate::node::NodeRef;
 use crate::part::Part;
-use crate::shelf::{Shelf, ShelfFault};
+use crate::shelf::{FixedShelf, Shelf, ShelfFault};
 use crate::stock::Stock;
 use std::alloc::{AllocError, Global};
 use std::collections::HashMap;
@@ -117,6 +117,8 @@ impl<'a> Shelf<'a> for Recorder<'a> {
 
     ghost used = { RecorderUsed };
 
+    ghost is_fixed = { true };
+
     ghost takes_memory = { true };
 
     ghost use Rattle.tree_node.specs.internal.RecorderLaws.{stands_once, given_held};
@@ -160,4 +162,13 @@ impl<'a> Shelf<'a> for Recorder<'a> {
             None => Err(ShelfFault::Missing),
         }
     }
+
+    /// It takes no hint.
+    fn announce(&mut self, _top: &Digest, _lo: &[u8], _hi: &[u8]) {}
+}
+
+impl<'a> FixedShelf<'a> for Recorder<'a> {
+    ghost use Rattle.std.specs.Prelude.{refl};
+
+    ghost fixed = { refl };
 }

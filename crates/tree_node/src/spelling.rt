@@ -5,10 +5,9 @@ ghost use Rattle.tree_node.specs.Faults.{IsFault};
 ghost use Rattle.tree_node.specs.Nodes.{AreBytes, IsNode, Node, Spells, spelling};
 ghost use Rattle.tree_node.specs.declared.fault.NodeFault.{NodeFault};
 
-/// The law of the form of a node's bytes, over its definitions alone: each byte string is either one
-/// node or refused for one fault, and a node is known from its bytes. So with the contracts of
-/// `write_leaf`, `write_inner` and `NodeRef::read` what was written reads back, and as nothing else.
-/// There is nothing to do when it runs.
+/// The law of the form of a node's bytes: each byte string is either exactly one node or refused for exactly one fault,
+/// and no two nodes have the same bytes. Together with the contracts of `write_leaf`, `write_inner` and `NodeRef::read`:
+/// what was written reads back, and as nothing else. A call does nothing at run time.
 pub fn spelling_law()
     // Two nodes that one byte string spells are equal.
     ensures unique { (bytes : List ℕ) (n m : Node) → Spells bytes n → Spells bytes m → n ≡ m }

@@ -13,9 +13,8 @@ use crate::item::Item;
 use crate::tree::Tree;
 use std::alloc::AllocError;
 
-/// Appends the bytes of the leaf with these items (this project's form of nodes, docs/FORMATS.md).
-/// They are a node's where the keys strictly rise, which isn't asked here. Where memory is refused
-/// the vector is as before.
+/// Appends the bytes of the leaf with these items (this project's form of nodes, docs/FORMATS.md). They are a node only
+/// if the keys strictly rise, which this function doesn't check. If memory runs out, the vector is unchanged.
 pub fn write_leaf(tree: Tree, items: &[Item<'_>], out: &mut Vec<u8>) -> Result<(), AllocError>
     requires few { length items.now ≤ ITEM_LIMIT }
     requires fit { All (λ item. FitsEntry (binding_of item)) items.now }
@@ -31,9 +30,8 @@ pub fn write_leaf(tree: Tree, items: &[Item<'_>], out: &mut Vec<u8>) -> Result<(
 }
 
 /// Appends the bytes of the inner node with these children (this project's form of nodes,
-/// docs/FORMATS.md). They are a node's where there is a child, the greatest keys strictly rise, and
-/// the level and the numbers of entries are in range, which isn't asked here. Where memory is
-/// refused the vector is as before.
+/// docs/FORMATS.md). They are a node only if there is a child, the greatest keys strictly rise, and the level and the
+/// numbers of entries are in range, which this function doesn't check. If memory runs out, the vector is unchanged.
 pub fn write_inner(
     tree: Tree,
     level: u8,

@@ -1,9 +1,9 @@
 -- Which nodes a walk fetched on its way down: of each level different ones, and no two levels share one.
-use Rattle.std.proofs.Common.{◌≡◌, ℕ, suc, ◌<◌, ◌≤◌, List, [], ◌∷◌, ◌++◌, inl, inr, Result, Ok, Err, refl, sym, ap, subst, append_assoc, arith}
+use Rattle.std.proofs.Common.{Bool, ◌≡◌, ℕ, suc, ◌<◌, ◌≤◌, List, [], ◌∷◌, ◌++◌, inl, inr, Result, Ok, Err, refl, sym, ap, subst, append_assoc, arith}
 use Rattle.std.specs.List.{AllByRecursion}
 use Rattle.tree_node.specs.Nodes.{level_of}
 use Rattle.tree_node.specs.Outcomes.{ShelfUse}
-use Rattle.tree_node.specs.Shelves.{SameNodes}
+use Rattle.tree_node.specs.Shelves.{Stays}
 use Rattle.tree_walk.specs.Fetches.{AreDifferent, HasFetched, IsAmong}
 use Rattle.tree_walk.specs.internal.Pendings.{FetchesBelow, FetchesLevel, IsBetweenLevels, IsOfLevel}
 use Rattle.tree_walk.specs.declared.fault.WalkFault.{WalkFault}
@@ -56,7 +56,7 @@ module _ (high : ℕ) (old : List ℕ → Type 0) (from : ℕ) where
   down_start held = record { done = []; fetched = fetched_none held old old from (λ bytes. ((λ is. is), (λ is. is))); differ = tt; so_far = tt }
 
   -- one more level
-  unfoldable pub down_step : {A : Type 0} (value : A) (level : ℕ) (held after mid new : List ℕ → Type 0) (via to : ℕ) → level < high → FetchingDown (suc level) high (record { held = held; before = old; after = mid }) from via → SameNodes held after
+  unfoldable pub down_step : {fixed : Bool} {A : Type 0} (value : A) (level : ℕ) (held after mid new : List ℕ → Type 0) (via to : ℕ) → level < high → FetchingDown (suc level) high (record { held = held; before = old; after = mid }) from via → Stays fixed held after
       → FetchesLevel level (Ok value) (record { held = after; before = mid; after = new }) via to → FetchingDown level high (record { held = after; before = old; after = new }) from to
   down_step value level held after mid new via to lt so stays last = record {
     done = so.done ++ last.0;
@@ -71,7 +71,7 @@ module _ (high : ℕ) (old : List ℕ → Type 0) (from : ℕ) where
   down_end value low held new to so = (so.done, so.fetched, so.differ, all_weaker (IsBetweenLevels low high) (IsBetweenLevels 0 high) so.done (lower 0 low high (omega arith)) so.so_far)
 
   -- refused in a level
-  pub down_stop : (A B : Type 0) (fault : WalkFault) (level : ℕ) (held after mid new : List ℕ → Type 0) (via to : ℕ) → level < high → FetchingDown (suc level) high (record { held = held; before = old; after = mid }) from via → SameNodes held after
+  pub down_stop : {fixed : Bool} (A B : Type 0) (fault : WalkFault) (level : ℕ) (held after mid new : List ℕ → Type 0) (via to : ℕ) → level < high → FetchingDown (suc level) high (record { held = held; before = old; after = mid }) from via → Stays fixed held after
       → FetchesLevel {A = A} level (Err fault) (record { held = after; before = mid; after = new }) via to → FetchesBelow {A = B} high (Err fault) (record { held = after; before = old; after = new }) from to
   down_stop A B fault level held after mid new via to lt so stays last = (
     so.done ++ last.0,
@@ -84,7 +84,7 @@ module _ (high : ℕ) (old : List ℕ → Type 0) (from : ℕ) where
   )
 
   -- the leaves, whichever way they ended
-  pub down_last : {A : Type 0} (result : Result A WalkFault) (held after mid new : List ℕ → Type 0) (via to : ℕ) → 0 < high → FetchingDown 1 high (record { held = held; before = old; after = mid }) from via → SameNodes held after
+  pub down_last : {fixed : Bool} {A : Type 0} (result : Result A WalkFault) (held after mid new : List ℕ → Type 0) (via to : ℕ) → 0 < high → FetchingDown 1 high (record { held = held; before = old; after = mid }) from via → Stays fixed held after
       → FetchesLevel 0 result (record { held = after; before = mid; after = new }) via to → FetchesBelow high result (record { held = after; before = old; after = new }) from to
   down_last (Ok value) held after mid new via to lt so stays last = down_end value 0 after new to (down_step value 0 held after mid new via to lt so stays last)
   down_last {A} (Err fault) held after mid new via to lt so stays last = down_stop A A fault 0 held after mid new via to lt so stays last

@@ -1,7 +1,7 @@
 -- Nodes that were fetched, one after the other.
-use Rattle.std.proofs.Common.{◌≡◌, ℕ, zero, suc, ◌+◌, ◌-◌, ◌^◌, min, List, [], ◌∷◌, ◌++◌, length, ◌⊎◌, inl, inr, refl, sym, ap, ◌∙◌, arith, length-append}
+use Rattle.std.proofs.Common.{Bool, ◌≡◌, ℕ, zero, suc, ◌+◌, ◌-◌, ◌^◌, min, List, [], ◌∷◌, ◌++◌, length, ◌⊎◌, inl, inr, refl, sym, ap, ◌∙◌, arith, length-append}
 use Rattle.std.specs.List.{AllByRecursion}
-use Rattle.tree_node.specs.Shelves.{GrownBy, SameNodes}
+use Rattle.tree_node.specs.Shelves.{GrownBy, SameNodes, Stays}
 use Rattle.tree_walk.specs.Fetches.{HasFetched, IsAmong, counted_up}
 
 -- ---- counts
@@ -40,9 +40,9 @@ all_weaker P Q (x ∷ xs) so all = (so x all.0, all_weaker P Q xs so all.1)
 
 -- ---- sets that gain nodes
 
--- a set is the same after two steps that leave it
-pub same_then : (a b c : List ℕ → Type 0) → SameNodes a b → SameNodes b c → SameNodes a c
-same_then a b c first last bytes = ((λ has. (first bytes).0 ((last bytes).0 has)), (λ has. (last bytes).1 ((first bytes).1 has)))
+-- what is held stays held after two steps, and on a fixed shelf nothing else is held
+pub stays_then : (fixed : Bool) (a b c : List ℕ → Type 0) → Stays fixed a b → Stays fixed b c → Stays fixed a c
+stays_then fixed a b c first last bytes = ((λ e has. (first bytes).0 e ((last bytes).0 e has)), (λ has. (last bytes).1 ((first bytes).1 has)))
 
 -- nothing was fetched
 pub fetched_none : (held old new : List ℕ → Type 0) (count : ℕ) → SameNodes old new → HasFetched (record { held = held; before = old; after = new }) count count []
@@ -64,7 +64,7 @@ fetched_one held old new count node is grown = record {
 }
 
 -- some were, and then others
-pub fetched_then : (held after old mid new : List ℕ → Type 0) (from via to : ℕ) (xs ys : List (List ℕ)) → SameNodes held after
+pub fetched_then : {fixed : Bool} (held after old mid new : List ℕ → Type 0) (from via to : ℕ) (xs ys : List (List ℕ)) → Stays fixed held after
     → HasFetched (record { held = held; before = old; after = mid }) from via xs → HasFetched (record { held = after; before = mid; after = new }) via to ys → HasFetched (record { held = after; before = old; after = new }) from to (xs ++ ys)
 fetched_then held after old mid new from via to xs ys stays first last = record {
   gained = λ bytes. (

@@ -1,10 +1,10 @@
 -- What a walk gives from the top down: of each level what those of its nodes give that are entered, after what stayed
 -- closed above.
-use Rattle.std.proofs.Common.{◌≡◌, ℕ, suc, ◌<◌, List, [], ◌∷◌, ◌++◌, map, Option, None, Result, Ok, Err, inr, refl, sym, subst, append_assoc, arith}
+use Rattle.std.proofs.Common.{Bool, ◌≡◌, ℕ, suc, ◌<◌, List, [], ◌∷◌, ◌++◌, map, Option, None, Result, Ok, Err, inr, refl, sym, subst, append_assoc, arith}
 use Rattle.std.specs.Prelude.{OnOk}
 use Rattle.std.proofs.lemmas.List.{append-nil}
 use Rattle.tree_node.specs.Nodes.{Binding, Inner, Leaf, Link}
-use Rattle.tree_node.specs.Shelves.{SameNodes}
+use Rattle.tree_node.specs.Shelves.{Stays}
 use Rattle.tree_walk.specs.Choices.{AreThose}
 use Rattle.tree_walk.specs.Fetches.{IsAmong, IsNodeText}
 use Rattle.tree_walk.specs.Given.{FromInner, FromLeaves, GivesFrom, IsEntered, wanted_of}
@@ -45,7 +45,7 @@ module _ {G : Type 0} (gathers : G → List (Option (List ℕ) × Link) → List
     gathering_start held = record { so_far = down_start (suc high) old from held; closed = []; gains = gains_none gathers first; gives = λ more below found is. is }
 
     -- one more level
-    pub gathering_step : (level : ℕ) (held after mid new : List ℕ → Type 0) (via to : ℕ) (pending entered : List (Option (List ℕ) × Link)) (before later : G) → suc level < suc high → GatheringDown (suc level) held mid via pending before → SameNodes held after
+    pub gathering_step : {fixed : Bool} (level : ℕ) (held after mid new : List ℕ → Type 0) (via to : ℕ) (pending entered : List (Option (List ℕ) × Link)) (before later : G) → suc level < suc high → GatheringDown (suc level) held mid via pending before → Stays fixed held after
         → ReadsLevel gathers Closed (record { held = after; before = mid; after = new }) via to tree (suc level) range pending entered before later → GatheringDown level after new to entered later
     unfolding down_step
     gathering_step level held after mid new via to pending entered before later lt so stays reads =
@@ -68,7 +68,7 @@ module _ {G : Type 0} (gathers : G → List (Option (List ℕ) × Link) → List
         }
 
     -- and the leaves
-    pub gathering_end : (held after mid new : List ℕ → Type 0) (via to : ℕ) (pending : List (Option (List ℕ) × Link)) (before later : G) → GatheringDown 0 held mid via pending before → SameNodes held after
+    pub gathering_end : {fixed : Bool} (held after mid new : List ℕ → Type 0) (via to : ℕ) (pending : List (Option (List ℕ) × Link)) (before later : G) → GatheringDown 0 held mid via pending before → Stays fixed held after
         → GathersFrom gathers Closed (IsOfLevel 0) (record { held = after; before = mid; after = new }) via to tree range (map (wanted_of 0) pending) before later
         → GathersFrom gathers Closed (IsBetweenLevels 0 (suc high)) (record { held = after; before = old; after = new }) from to tree range (map (wanted_of high) spots) first later
     unfolding down_step
@@ -108,9 +108,9 @@ module _ {G : Type 0} (gathers : G → List (Option (List ℕ) × Link) → List
       }
 
   -- the top is an inner node, with what is below it
-  pub gathers_top_inner : (top : List ℕ) (in_tree level : ℕ) (links : List Link) (entered closed : List (Option (List ℕ) × Link)) (held after old mid new : List ℕ → Type 0) (from via to : ℕ) (before now later : G)
+  pub gathers_top_inner : {fixed : Bool} (top : List ℕ) (in_tree level : ℕ) (links : List Link) (entered closed : List (Option (List ℕ) × Link)) (held after old mid new : List ℕ → Type 0) (from via to : ℕ) (before now later : G)
       → FetchedNode (Inner in_tree (suc level) links) (record { held = held; before = old; after = mid }) from via → IsAccepted mid tree (Top top) (Inner in_tree (suc level) links)
-      → AreThose (IsEntered Closed range) (children_placed None links) entered → AreThose Closed (children_placed None links) closed → Gains gathers before now closed [] → SameNodes held after
+      → AreThose (IsEntered Closed range) (children_placed None links) entered → AreThose Closed (children_placed None links) closed → Gains gathers before now closed [] → Stays fixed held after
       → GathersFrom gathers Closed (IsBetweenLevels 0 (suc level)) (record { held = after; before = mid; after = new }) via to tree range (map (wanted_of level) entered) now later
       → GathersFrom gathers Closed IsNodeText (record { held = after; before = old; after = new }) from to tree range (Top top ∷ []) before later
   gathers_top_inner top in_tree level links entered closed held after old mid new from via to before now later is accepted enters closes gains stays down =

@@ -1,10 +1,10 @@
 -- The nodes of a level that were fetched and accepted, one for each pending child so far, and what was taken of them.
-use Rattle.std.proofs.Common.{◌≡◌, ℕ, List, [], ◌∷◌, ◌++◌, map, Option, None, Some, inl, refl, sym, subst, append_assoc}
+use Rattle.std.proofs.Common.{Bool, ◌≡◌, ℕ, List, [], ◌∷◌, ◌++◌, map, Option, None, Some, inl, refl, sym, subst, append_assoc}
 use Rattle.std.specs.List.{AllByRecursion, flat_map}
 use Rattle.std.proofs.lemmas.Grind.{flat_map-append}
 use Rattle.std.proofs.lemmas.List.{append-nil}
 use Rattle.tree_node.specs.Nodes.{Link, Node, Spells, level_of, spelling}
-use Rattle.tree_node.specs.Shelves.{SameNodes}
+use Rattle.tree_node.specs.Shelves.{Stays}
 use Rattle.tree_node.specs.Trees.{greatest_of}
 use Rattle.tree_walk.specs.Choices.{AreThose}
 use Rattle.tree_walk.specs.Fetches.{IsAmong}
@@ -66,8 +66,8 @@ module _ (tree level : ℕ) (all : List (Option (List ℕ) × Link)) where
     reading_start held order = record { so_far = level_start level old from held all order; are = λ more others is. is }
 
     -- one more
-    pub reading_step : (low : Option (List ℕ)) (held after mid new : List ℕ → Type 0) (via to : ℕ) (spot : Option (List ℕ) × Link) (rest : List (Option (List ℕ) × Link)) (read : List (Option (List ℕ) × Node)) (node : Node)
-        → ReadingLevel low held mid via (spot ∷ rest) read → SameNodes held after → FetchedNode node (record { held = after; before = mid; after = new }) via to
+    pub reading_step : {fixed : Bool} (low : Option (List ℕ)) (held after mid new : List ℕ → Type 0) (via to : ℕ) (spot : Option (List ℕ) × Link) (rest : List (Option (List ℕ) × Link)) (read : List (Option (List ℕ) × Node)) (node : Node)
+        → ReadingLevel low held mid via (spot ∷ rest) read → Stays fixed held after → FetchedNode node (record { held = after; before = mid; after = new }) via to
         → level_of node ≡ level → greatest_of node ≡ spot.1.greatest → IsAccepted new tree (wanted_of level spot) node
         → ReadingLevel (Some spot.1.greatest) after new to rest (read ++ (spot.0, node) ∷ [])
     unfolding level_step

@@ -1,11 +1,11 @@
 -- Which nodes of a level were fetched: one for each pending child so far, and no two the same.
-use Rattle.std.proofs.Common.{◌≡◌, ℕ, List, [], ◌∷◌, ◌++◌, Option, None, Some, inl, inr, Result, Ok, Err, refl, sym, subst, ◌∙◌, arith}
+use Rattle.std.proofs.Common.{Bool, ◌≡◌, ℕ, List, [], ◌∷◌, ◌++◌, Option, None, Some, inl, inr, Result, Ok, Err, refl, sym, subst, ◌∙◌, arith}
 use Rattle.std.proofs.lemmas.List.{append-nil}
 use Rattle.std.specs.List.{AllByRecursion}
 use Rattle.tree_node.specs.Nodes.{Link, Node, Spells, level_of}
 use Rattle.tree_node.specs.internal.OrderLemmas.{not_itself}
 use Rattle.tree_node.specs.Outcomes.{ShelfUse}
-use Rattle.tree_node.specs.Shelves.{SameNodes}
+use Rattle.tree_node.specs.Shelves.{Stays}
 use Rattle.tree_node.specs.Trees.{greatest_of}
 use Rattle.tree_node.proofs.shared.FieldLemmas.{ok_is}
 use Rattle.tree_node.proofs.shared.NodeLaws.{node_again}
@@ -88,8 +88,8 @@ module _ (level : ℕ) (old : List ℕ → Type 0) (from : ℕ) where
   }
 
   -- one more
-  unfoldable pub level_step : (low : Option (List ℕ)) (held after mid new : List ℕ → Type 0) (via to : ℕ) (spot : Option (List ℕ) × Link) (rest : List (Option (List ℕ) × Link)) (node : Node)
-      → FetchingLevel level low (record { held = held; before = old; after = mid }) from via (spot ∷ rest) → SameNodes held after → FetchedNode node (record { held = after; before = mid; after = new }) via to
+  unfoldable pub level_step : {fixed : Bool} (low : Option (List ℕ)) (held after mid new : List ℕ → Type 0) (via to : ℕ) (spot : Option (List ℕ) × Link) (rest : List (Option (List ℕ) × Link)) (node : Node)
+      → FetchingLevel level low (record { held = held; before = old; after = mid }) from via (spot ∷ rest) → Stays fixed held after → FetchedNode node (record { held = after; before = mid; after = new }) via to
       → level_of node ≡ level → greatest_of node ≡ spot.1.greatest → FetchingLevel level (Some spot.1.greatest) (record { held = after; before = old; after = new }) from to rest
   level_step low held after mid new via to spot rest node so stays is at_level greatest =
       let above : IsAboveLeft spot.0 (greatest_of node) = subst (λ (g : List ℕ). IsAboveLeft spot.0 g) (sym greatest) so.order.1 in
@@ -126,8 +126,8 @@ module _ (level : ℕ) (old : List ℕ → Type 0) (from : ℕ) where
       )
 
   -- refused, perhaps at one more
-  pub level_stopped : {A : Type 0} (result : Result A WalkFault) (fault : WalkFault) (low : Option (List ℕ)) (held after mid new : List ℕ → Type 0) (via to : ℕ) (rest : List (Option (List ℕ) × Link))
-      → result ≡ Err fault → FetchingLevel level low (record { held = held; before = old; after = mid }) from via rest → SameNodes held after → FetchedFew (record { held = after; before = mid; after = new }) via to
+  pub level_stopped : {fixed : Bool} {A : Type 0} (result : Result A WalkFault) (fault : WalkFault) (low : Option (List ℕ)) (held after mid new : List ℕ → Type 0) (via to : ℕ) (rest : List (Option (List ℕ) × Link))
+      → result ≡ Err fault → FetchingLevel level low (record { held = held; before = old; after = mid }) from via rest → Stays fixed held after → FetchedFew (record { held = after; before = mid; after = new }) via to
       → FetchesLevel level result (record { held = after; before = old; after = new }) from to
   level_stopped {A} result fault low held after mid new via to rest is so stays few =
       subst (λ (r : Result A WalkFault). FetchesLevel level r (record { held = after; before = old; after = new }) from to) (sym is) (

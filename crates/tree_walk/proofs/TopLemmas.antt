@@ -4,7 +4,7 @@ use Rattle.std.specs.List.{AllByRecursion}
 use Rattle.std.proofs.lemmas.Bool.{cases_order}
 use Rattle.tree_node.specs.Nodes.{AreBytes, Binding, Inner, IsTree, Leaf, Link, Node, level_of}
 use Rattle.tree_node.specs.NodeRefs.{number_of}
-use Rattle.tree_node.specs.Shelves.{SameNodes}
+use Rattle.tree_node.specs.Shelves.{Stays}
 use Rattle.tree_node.specs.Outcomes.{Cause, Clash, EndsBy, GrownByAll, Outcome, RefusedFor}
 use Rattle.tree_node.specs.Trees.{HasTree, Shape, Stands, entries_in, greatest_of, leaves, left_at, level_at, levels, link_to, links_in, node_in, top_of}
 use Rattle.tree_node.proofs.shared.TreeLaws.{above, last_has_one, whole}
@@ -58,7 +58,7 @@ pub text_of : (low high : ℕ) (bytes : List ℕ) → IsBetweenLevels low high b
 text_of low high bytes is = (is.0, is.1)
 
 -- the top, and what is below it
-pub top_then_down : {A : Type 0} (result : Result A WalkFault) (tree level : ℕ) (links : List Link) (held after old mid new : List ℕ → Type 0) (from via to : ℕ) → FetchedNode (Inner tree (suc level) links) (record { held = held; before = old; after = mid }) from via → SameNodes held after
+pub top_then_down : {fixed : Bool} {A : Type 0} (result : Result A WalkFault) (tree level : ℕ) (links : List Link) (held after old mid new : List ℕ → Type 0) (from via to : ℕ) → FetchedNode (Inner tree (suc level) links) (record { held = held; before = old; after = mid }) from via → Stays fixed held after
     → FetchesBelow (suc level) result (record { held = after; before = mid; after = new }) via to → Fetches result (record { held = after; before = old; after = new }) from to
 top_then_down (Ok value) tree level links held after old mid new from via to top stays down =
     let node = Inner tree (suc level) links in (

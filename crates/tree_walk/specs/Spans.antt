@@ -35,6 +35,6 @@ abbrev pub IsWithin : Range → Option (List ℕ) → List ℕ → Option (List 
 IsWithin range left greatest child =
     (IsMetChild range child → Meets range left greatest) × (IsCovered range left greatest → IsCovered range child.0 child.1.greatest)
 
--- so it is of each of the node's children
+-- this is so of each of the node's children
 abbrev pub HasChildrenWithin : Range → Option (List ℕ) × Node → Type 0
 HasChildrenWithin range parent = AllByRecursion (IsWithin range parent.0 (greatest_of parent.1)) (children_placed parent.0 (links_in parent.1))

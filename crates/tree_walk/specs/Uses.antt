@@ -3,6 +3,6 @@
 use Rattle.std.specs.Prelude.{ℕ, List}
 use Rattle.tree_node.specs.Outcomes.{ShelfUse}
 
--- what was used before and after a call, of what is held after it
+-- the nodes that are held after a call, and those that were used before and after it
 abbrev pub nodes_around : {S : Type 0} → (holds used : S → List ℕ → Type 0) → S → S → ShelfUse
 nodes_around holds used old new = record { held = holds new; before = used old; after = used new }

@@ -1,10 +1,10 @@
 //! The way down a tree, level by level.
 
-ghost use Rattle.std.specs.Prelude.{[], ◌≡◌, ◌≤◌, ◌++◌, ◌-◌, ◌∷◌, ℕ, suc, None, List, OnOk, IfErr, IfOk, Option, map};
+ghost use Rattle.std.specs.Prelude.{[], ◌≡◌, ◌≤◌, ◌++◌, ◌-◌, ◌∷◌, ℕ, suc, None, List, OnOk, IfErr, IfOk, Option, map, true};
 ghost use Rattle.tree_node.specs.NodeRefs.{number_of};
 ghost use Rattle.tree_node.specs.Nodes.{AreRisingFrom, Binding, Link, Node, keys_of};
 ghost use Rattle.tree_node.specs.Outcomes.{Outcome};
-ghost use Rattle.tree_node.specs.Shelves.{HasNone, SameNodes};
+ghost use Rattle.tree_node.specs.Shelves.{HasNone, Stays};
 ghost use Rattle.tree_node.specs.Trees.{Shape, levels};
 ghost use Rattle.tree_walk.specs.Fetches.{Fetches, IsNodeText, cause_of, counted_up};
 ghost use Rattle.tree_walk.specs.internal.Accounts.{GathersAll, GathersBelow, GathersClosed, GathersEntries};
@@ -46,14 +46,15 @@ pub(crate) fn gather<'a, S: Shelf<'a>, G: Gather<'a>>(
     gathered: &mut G,
 ) -> Result<(), WalkFault>
     requires { IsIn (range_of range.now) range.now.lo.now }
-    ensures stays { SameNodes (S.holds shelf.old) (S.holds shelf.new) }
+    ensures stays { Stays S.is_fixed (S.holds shelf.old) (S.holds shelf.new) }
     ensures grows { (bytes : List ℕ) → S.used shelf.old bytes → S.used shelf.new bytes }
     ensures calls { tally.new.calls ≡ counted_up tally.old.calls 1 }
     ensures fetches { Fetches result (nodes_around S.holds S.used shelf.old shelf.new)
         tally.old.fetches tally.new.fetches }
     ensures told { IfErr result
         (HasReason (number_of tree) top.now.0 (S.holds shelf.new) (S.used shelf.new)) }
-    ensures none { HasNone (S.holds shelf.new) top.now.0 → result ≡ Err WalkFault.Missing }
+    ensures none { S.is_fixed ≡ true → HasNone (S.holds shelf.new) top.now.0
+        → result ≡ Err WalkFault.Missing }
     ensures gives { OnOk result (GathersFrom G.gathers
         (IsClosedChild G.closing (range_of range.now)) IsNodeText
         (nodes_around S.holds S.used shelf.old shelf.new) tally.old.fetches tally.new.fetches
@@ -96,7 +97,7 @@ fn descend<'a, S: Shelf<'a>, G: Gather<'a>>(
     requires some { IsIn (range_of way.now.range.now) way.now.range.now.lo.now }
     requires order { AreInOrder None (spots_of pending.items) }
     ensures calls { tally.new.calls ≡ tally.old.calls }
-    ensures stays { SameNodes (S.holds shelf.old) (S.holds shelf.new) }
+    ensures stays { Stays S.is_fixed (S.holds shelf.old) (S.holds shelf.new) }
     ensures grows { (bytes : List ℕ) → S.used shelf.old bytes → S.used shelf.new bytes }
     ensures fetches { FetchesBelow (suc level) result
         (nodes_around S.holds S.used shelf.old shelf.new) tally.old.fetches tally.new.fetches }
@@ -142,7 +143,7 @@ fn open_level<'a, S: Shelf<'a>, G: Gather<'a>>(
     requires some { IsIn (range_of way.now.range.now) way.now.range.now.lo.now }
     requires order { AreInOrder None (spots_of nodes.now) }
     ensures calls { tally.new.calls ≡ tally.old.calls }
-    ensures stays { SameNodes (S.holds shelf.old) (S.holds shelf.new) }
+    ensures stays { Stays S.is_fixed (S.holds shelf.old) (S.holds shelf.new) }
     ensures grows { (bytes : List ℕ) → S.used shelf.old bytes → S.used shelf.new bytes }
     ensures fetches { FetchesLevel level result
         (nodes_around S.holds S.used shelf.old shelf.new) tally.old.fetches tally.new.fetches }
@@ -185,7 +186,7 @@ fn take_leaves<'a, S: Shelf<'a>, G: Gather<'a>>(
 ) -> Result<(), WalkFault>
     requires order { AreInOrder None (spots_of nodes.now) }
     ensures calls { tally.new.calls ≡ tally.old.calls }
-    ensures stays { SameNodes (S.holds shelf.old) (S.holds shelf.new) }
+    ensures stays { Stays S.is_fixed (S.holds shelf.old) (S.holds shelf.new) }
     ensures grows { (bytes : List ℕ) → S.used shelf.old bytes → S.used shelf.new bytes }
     ensures fetches { FetchesLevel 0 result
         (nodes_around S.holds S.used shelf.old shelf.new) tally.old.fetches tally.new.fetches }

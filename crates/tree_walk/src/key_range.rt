@@ -10,12 +10,11 @@ ghost use Rattle.tree_walk.specs.Ranges.{Begins, IsAboveLeft, IsAtMost, IsCovere
 
 use tree_node::is_below;
 
-/// The keys from `lo` to `hi`, both of them too, and where `under` holds those that `hi` begins (this
-/// project's trees, docs/FORMATS.md). Keys are byte strings of any length; the first byte that differs
-/// decides their order, else the shorter is below.
+/// The keys from `lo` to `hi`, both included; if `under` is true, also the keys that have `hi` as a prefix (this project's
+/// trees, docs/FORMATS.md). Keys are byte strings of any length, in lexicographic order.
 ///
-/// The ends are borrowed and no method takes memory. Each is linear in the bytes of the keys that it
-/// compares. A range may be empty: it is exactly where `lo` itself isn't in it.
+/// The ends are borrowed and no method allocates. Each method is linear in the bytes of the keys that it compares. A
+/// range is empty exactly if it doesn't contain its own `lo`.
 #[derive(Clone, Copy, Debug)]
 pub struct KeyRange<'a> {
     /// No key below this one is in the range.
@@ -40,8 +39,8 @@ impl<'a> KeyRange<'a> {
     /// node's left neighbour, or for a first child its parent's own left bound; `greatest` is the
     /// greatest key below the node (this project's trees, docs/FORMATS.md).
     ///
-    /// The answer is by four comparisons, which two conditions make right. `lo` is in the range, as
-    /// `contains` tells: else nothing does. `left` is below `greatest`: else no string lies between them.
+    /// Four comparisons decide this. They are right under two conditions: `lo` is in the range, as `contains` says (else
+    /// nothing is), and `left` is below `greatest` (else no string lies between them).
     pub fn meets(&self, left: Option<&[u8]>, greatest: &[u8]) -> bool
         requires some { IsIn (range_of self.now) self.now.lo.now }
         requires rising { IsAboveLeft (option_copied left) greatest.now }
@@ -69,7 +68,7 @@ impl<'a> KeyRange<'a> {
     /// nothing up to the key is in the range.
     pub(crate) fn starts_by(&self, key: &[u8]) -> bool
         ensures told { IsTrue result ↔ IsAtMost self.now.lo.now key.now }
-        // As its type says.
+        // A slice of `u8` holds bytes; callers' proofs need it as a clause.
         ensures bytes { AreBytes self.now.lo.now }
     {
         is_at_most(self.lo, key)
@@ -87,7 +86,7 @@ impl<'a> KeyRange<'a> {
     /// Where it doesn't, it doesn't above any greater one.
     pub(crate) fn goes_on_above(&self, left: Option<&[u8]>) -> bool
         ensures told { IsTrue result ↔ GoesOnAbove (range_of self.now) (option_copied left.entry) }
-        // As its type says.
+        // A slice of `u8` holds bytes; callers' proofs need it as a clause.
         ensures bytes { IfSome (option_copied left.entry) AreBytes }
     {
         match left {
@@ -99,7 +98,7 @@ impl<'a> KeyRange<'a> {
     /// Whether the range goes on above this bound: it is below `hi`, or `hi` begins it and `under` holds.
     fn reaches_above(&self, bound: &[u8]) -> bool
         ensures told { IsTrue result ↔ ReachesAbove (range_of self.now) bound.now }
-        // As its type says.
+        // A slice of `u8` holds bytes; callers' proofs need it as a clause.
         ensures bytes { AreBytes bound.now }
     {
         is_below(bound, self.hi) || (self.under && begins(self.hi, bound))

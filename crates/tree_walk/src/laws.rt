@@ -10,20 +10,20 @@ ghost use Rattle.tree_walk.specs.Spans.{children_of_all, children_placed, placed
 ghost use Rattle.tree_walk.specs.Ranges.{Begins, IsAboveLeft, IsAtMost, IsCovered, IsIn, IsNoHigher, Meets, Range};
 ghost use Rattle.tree_walk.specs.Walks.{IsEntryIn};
 
-/// The law of empty ranges: where any key stands in a range, its `lo` does. So a range that doesn't
-/// contain its `lo` is empty.
+/// The law of empty ranges: a range that contains any key contains its `lo`. So a range that doesn't contain its `lo` is
+/// empty.
 pub fn empty_law()
     ensures { (range : Range) (key : List ℕ) → IsIn range key → IsIn range range.lo }
 {}
 
-/// The law of one key: in the range from a key to itself that key stands alone.
+/// The law of one key: the range from a key to itself contains that key and no other.
 pub fn point_law()
     ensures { (key other : List ℕ)
         → IsIn (record { lo = key; hi = key; under = false }) other ↔ (other ≡ key) }
 {}
 
-/// The law of prefixes: in the range of a key and those that it begins stand exactly the keys that it
-/// begins, itself too.
+/// The law of prefixes: the range from a key to itself with `under` contains exactly the keys that have that key as a
+/// prefix, itself included.
 pub fn prefix_law()
     ensures { (front key : List ℕ)
         → IsIn (record { lo = front; hi = front; under = true }) key ↔ Begins front key }

@@ -1,9 +1,9 @@
 //! Walks over trees of which only some nodes are at hand.
 //!
-//! [`range`] gives the entries of a tree in a range of keys, complete and exact, or refuses by name,
-//! whatever the nodes are that a shelf gives it; [`count`] gives their number alone. A [`KeyRange`] tells
-//! which keys are in it, which nodes of a tree a walk has to open for it, and which a count may leave
-//! closed: each by comparing a few keys, which stay where they lie. The crate's laws say why.
+//! [`range`] gives exactly the entries of a tree whose keys are in a range, or a named fault, whatever nodes the shelf
+//! gives; [`count`] gives only their number. A [`KeyRange`] says which keys are in it, which nodes of a tree a walk has to
+//! open for it, and which a count may leave closed; it compares a few borrowed keys for that. The crate's laws say why
+//! its answers are right.
 #![tactic(auto)]
 
 mod descent;

@@ -3,7 +3,7 @@
 ghost use Rattle.std.specs.Prelude.{◌≡◌};
 ghost use Rattle.tree_walk.specs.Fetches.{counted_up};
 
-/// How much walks did. A count at its greatest stays there.
+/// How many walks and fetches there were. Both counts saturate.
 #[derive(Clone, Copy, Debug, Default, PartialEq, Eq)]
 pub struct Tally {
     /// How many walks were begun.

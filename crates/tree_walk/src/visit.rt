@@ -4,7 +4,7 @@ ghost use Rattle.std.specs.Prelude.{◌≡◌, ◌≤◌, ℕ, List, IfErr, IfOk
 ghost use Rattle.tree_node.specs.Digests.{digest};
 ghost use Rattle.tree_node.specs.NodeRefs.{node_read, number_of};
 ghost use Rattle.tree_node.specs.Nodes.{IsNode, Inner, Leaf, Node, spelling, tree_of};
-ghost use Rattle.tree_node.specs.Shelves.{HasNone, SameNodes};
+ghost use Rattle.tree_node.specs.Shelves.{HasNone, Stays};
 ghost use Rattle.tree_walk.specs.Fetches.{cause_of};
 ghost use Rattle.tree_node.specs.Outcomes.{Outcome};
 ghost use Rattle.tree_walk.specs.internal.Pendings.{IsStated, Opens, spot_of};
@@ -25,7 +25,7 @@ pub(crate) fn open<'a, S: Shelf<'a>>(
     tally: &mut Tally,
 ) -> Result<NodeRef<'a>, WalkFault>
     ensures calls { tally.new.calls ≡ tally.old.calls }
-    ensures stays { SameNodes (S.holds shelf.old) (S.holds shelf.new) }
+    ensures stays { Stays S.is_fixed (S.holds shelf.old) (S.holds shelf.new) }
     ensures grows { (bytes : List ℕ) → S.used shelf.old bytes → S.used shelf.new bytes }
     ensures opens { Opens node_read result
         (nodes_around S.holds S.used shelf.old shelf.new) tally.old.fetches tally.new.fetches }
@@ -34,7 +34,8 @@ pub(crate) fn open<'a, S: Shelf<'a>>(
         (Top key.now.0) (node_read node)) }
     ensures told { IfErr result
         (IsReason (number_of tree) (S.holds shelf.new) (S.used shelf.new) (Top key.now.0)) }
-    ensures none { HasNone (S.holds shelf.new) key.now.0 → result ≡ Err WalkFault.Missing }
+    ensures none { S.is_fixed ≡ true → HasNone (S.holds shelf.new) key.now.0
+        → result ≡ Err WalkFault.Missing }
     ensures memory { result ≡ Err WalkFault.Memory → S.takes_memory ≡ true }
     ensures answer { (node : Node) → IsNode node → tree_of node ≡ number_of tree
         → key.now.0 ≡ digest (spelling node)
@@ -60,7 +61,7 @@ pub(crate) fn open_inner<'a, S: Shelf<'a>>(
 ) -> Result<Children<'a>, WalkFault>
     requires { 1 ≤ level }
     ensures calls { tally.new.calls ≡ tally.old.calls }
-    ensures stays { SameNodes (S.holds shelf.old) (S.holds shelf.new) }
+    ensures stays { Stays S.is_fixed (S.holds shelf.old) (S.holds shelf.new) }
     ensures grows { (bytes : List ℕ) → S.used shelf.old bytes → S.used shelf.new bytes }
     ensures opens { Opens (Inner (number_of tree) level) result
         (nodes_around S.holds S.used shelf.old shelf.new) tally.old.fetches tally.new.fetches }
@@ -102,7 +103,7 @@ pub(crate) fn open_leaf<'a, S: Shelf<'a>>(
     tally: &mut Tally,
 ) -> Result<Entries<'a>, WalkFault>
     ensures calls { tally.new.calls ≡ tally.old.calls }
-    ensures stays { SameNodes (S.holds shelf.old) (S.holds shelf.new) }
+    ensures stays { Stays S.is_fixed (S.holds shelf.old) (S.holds shelf.new) }
     ensures grows { (bytes : List ℕ) → S.used shelf.old bytes → S.used shelf.new bytes }
     ensures opens { Opens (Leaf (number_of tree)) result
         (nodes_around S.holds S.used shelf.old shelf.new) tally.old.fetches tally.new.fetches }

@@ -1,10 +1,10 @@
 //! The two calls: the entries of a tree in a range of keys, and their number.
 
-ghost use Rattle.std.specs.Prelude.{◌≡◌, ℕ, List, IfErr, IfOk};
+ghost use Rattle.std.specs.Prelude.{◌≡◌, ℕ, List, IfErr, IfOk, true};
 ghost use Rattle.tree_node.specs.NodeRefs.{bindings_of, number_of};
 ghost use Rattle.tree_node.specs.Nodes.{Binding};
 ghost use Rattle.tree_node.specs.Outcomes.{Outcome};
-ghost use Rattle.tree_node.specs.Shelves.{HasNone, SameNodes};
+ghost use Rattle.tree_node.specs.Shelves.{HasNone, Stays};
 ghost use Rattle.tree_node.specs.Trees.{Shape, levels};
 ghost use Rattle.tree_walk.specs.Choices.{AreThose, IsCount};
 ghost use Rattle.tree_walk.specs.Fetches.{Fetches, cause_of, counted_up};
@@ -25,15 +25,13 @@ use tree_node::{Digest, Item, Shelf, Tree};
 /// The entries of a tree in a range of keys, in the order of their keys: what is below the node with
 /// the digest `top`. Keys and values are slices of the nodes that the shelf gave, and outlive it.
 ///
-/// It fetches the top, and of each inner node that it fetched the children that meet the range, level by
-/// level: over a tree as a publisher builds it exactly the nodes that meet the range, each once. Over
-/// other nodes it ends too, since each node that it accepts is another one. The tally counts one call,
-/// and each node that the shelf gave.
+/// It fetches the top, and then, level by level, those children of the fetched nodes that meet the range. Over a tree as
+/// a publisher builds it these are exactly the nodes that meet the range, each once. Over other nodes it ends too, since
+/// it never accepts the same node twice. The tally counts one call, and each node that the shelf gave.
 ///
-/// Refused with `Missing` (V1) where the shelf doesn't hold a node that the walk needs, `Malformed` (V2)
-/// where what it gave is no node, `WrongTreeOrLevel` (V3) and `Disagrees` (V4) where a child isn't as its
-/// parent states, and where memory is refused. Then shelf and tally tell what was fetched until then. Linear
-/// in the bytes of the fetched nodes.
+/// Refused with `Missing` (V1) if the shelf doesn't hold a node that the walk needs, with `Malformed` (V2) if what it gave
+/// isn't a node, with `WrongTreeOrLevel` (V3) or `Disagrees` (V4) if a child isn't as its parent states, and if memory
+/// runs out. After a refusal shelf and tally show what was fetched. Linear in the bytes of the fetched nodes.
 ///
 /// Source: this project's trees, docs/FORMATS.md.
 pub fn range<'a, S: Shelf<'a>>(
@@ -45,8 +43,8 @@ pub fn range<'a, S: Shelf<'a>>(
     tally: &mut Tally,
 ) -> Result<Vec<Item<'a>>, WalkFault>
     requires { IsIn (range_of range.now) range.now.lo.now }
-    // The held nodes never change, and what was used stays used.
-    ensures stays { SameNodes (S.holds shelf.old) (S.holds shelf.new) }
+    // What is held stays held, on a fixed shelf just that, and what was used stays used.
+    ensures stays { Stays S.is_fixed (S.holds shelf.old) (S.holds shelf.new) }
     ensures grows { (bytes : List ℕ) → S.used shelf.old bytes → S.used shelf.new bytes }
     // One call was counted, and the fetched nodes, which differ.
     ensures calls { tally.new.calls ≡ counted_up tally.old.calls 1 }
@@ -55,8 +53,9 @@ pub fn range<'a, S: Shelf<'a>>(
     // A refusal tells what is wrong with a node that it came to want,
     ensures told { IfErr result
         (HasReason (number_of tree) top.now.0 (S.holds shelf.new) (S.used shelf.new)) }
-    // and it is V1 where the top isn't held.
-    ensures none { HasNone (S.holds shelf.new) top.now.0 → result ≡ Err WalkFault.Missing }
+    // and on a fixed shelf it is V1 if the top isn't held.
+    ensures none { S.is_fixed ≡ true → HasNone (S.holds shelf.new) top.now.0
+        → result ≡ Err WalkFault.Missing }
     // Whatever the nodes are: those that it fetched, one at least, and no others give these entries.
     ensures gives { IfOk result (λ found. IsWalk
         (nodes_around S.holds S.used shelf.old shelf.new) tally.old.fetches tally.new.fetches
@@ -78,10 +77,9 @@ pub fn range<'a, S: Shelf<'a>>(
 
 /// The number of entries of a tree in a range of keys: what is below the node with the digest `top`.
 ///
-/// It goes as `range` does, but that a child that the range covers stays closed: of it the number is
-/// counted that its parent states. Over a tree as a publisher builds it the number is at most 2^29; over
-/// other nodes a number at its greatest stays there. Refusals, shelf and tally are as for `range`; a
-/// closed child isn't looked at.
+/// It works as `range` does, but doesn't open a child that the range covers: it adds the number of entries that the
+/// parent states for it. Over a tree as a publisher builds it the number is at most 2^29; over other nodes it saturates
+/// at 2^64 - 1. Refusals, shelf and tally are as for `range`.
 ///
 /// Source: this project's trees, docs/FORMATS.md.
 pub fn count<'a, S: Shelf<'a>>(
@@ -93,8 +91,8 @@ pub fn count<'a, S: Shelf<'a>>(
     tally: &mut Tally,
 ) -> Result<u64, WalkFault>
     requires { IsIn (range_of range.now) range.now.lo.now }
-    // The held nodes never change, and what was used stays used.
-    ensures stays { SameNodes (S.holds shelf.old) (S.holds shelf.new) }
+    // What is held stays held, on a fixed shelf just that, and what was used stays used.
+    ensures stays { Stays S.is_fixed (S.holds shelf.old) (S.holds shelf.new) }
     ensures grows { (bytes : List ℕ) → S.used shelf.old bytes → S.used shelf.new bytes }
     // One call was counted, and the fetched nodes, which differ.
     ensures calls { tally.new.calls ≡ counted_up tally.old.calls 1 }
@@ -103,8 +101,9 @@ pub fn count<'a, S: Shelf<'a>>(
     // A refusal tells what is wrong with a node that it came to want,
     ensures told { IfErr result
         (HasReason (number_of tree) top.now.0 (S.holds shelf.new) (S.used shelf.new)) }
-    // and it is V1 where the top isn't held.
-    ensures none { HasNone (S.holds shelf.new) top.now.0 → result ≡ Err WalkFault.Missing }
+    // and on a fixed shelf it is V1 if the top isn't held.
+    ensures none { S.is_fixed ≡ true → HasNone (S.holds shelf.new) top.now.0
+        → result ≡ Err WalkFault.Missing }
     // Whatever the nodes are: those that it fetched, one at least, and no others give this number.
     ensures gives { IfOk result (λ number. IsWalk
         (nodes_around S.holds S.used shelf.old shelf.new) tally.old.fetches tally.new.fetches

@@ -6,28 +6,8 @@ import sys
 import time
 
 import osmnx
+from json_objects import objects_of
 from osmnx import downloader, graph
-
-KINDS = {"node": "n", "way": "w", "relation": "r"}
-
-
-def objects_of(answer):
-    objects = {}
-    for element in answer["elements"]:
-        objects[f"{KINDS[element['type']]}{element['id']}"] = {
-            "tags": element.get("tags", {}),
-            "at": [repr(element["lat"]), repr(element["lon"])] if "lat" in element else None,
-            "nodes": element.get("nodes", []),
-            "members": [[member["type"], member["ref"], member["role"]] for member in element.get("members", [])],
-            "meta": [
-                element.get("version", 0),
-                element.get("changeset", 0),
-                element.get("timestamp", ""),
-                element.get("uid", 0),
-                element.get("user", ""),
-            ],
-        }
-    return objects
 
 
 def main():

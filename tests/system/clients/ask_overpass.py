@@ -5,27 +5,7 @@ import json
 import sys
 
 import overpass
-
-KINDS = {"node": "n", "way": "w", "relation": "r"}
-
-
-def objects_of(answer):
-    objects = {}
-    for element in answer["elements"]:
-        objects[f"{KINDS[element['type']]}{element['id']}"] = {
-            "tags": element.get("tags", {}),
-            "at": [repr(element["lat"]), repr(element["lon"])] if "lat" in element else None,
-            "nodes": element.get("nodes", []),
-            "members": [[member["type"], member["ref"], member["role"]] for member in element.get("members", [])],
-            "meta": [
-                element.get("version", 0),
-                element.get("changeset", 0),
-                element.get("timestamp", ""),
-                element.get("uid", 0),
-                element.get("user", ""),
-            ],
-        }
-    return objects
+from json_objects import objects_of
 
 
 def main():

@@ -3,14 +3,15 @@ use Rattle.std.proofs.Common.{◌≡◌, ◌∙◌, ℕ, Bool, List, ap, inl, in
 use Rattle.std.specs.Prelude.{Option, Some, None}
 use Rattle.http_messages.specs.Forms.{query_of}
 use Rattle.http_messages.specs.Requests.{Asked}
-use Rattle.osm_gate.specs.ResponseTexts.{Response}
-use Rattle.osm_gate.specs.Responses.{ByMethodWithin, ByQueryWithin, ByRouteWithin, GivesAt, GivesWithin, IsResponseWithin, ends, method_of, root_by_method}
+use Rattle.http_messages.specs.ResponseTexts.{Response}
+use Rattle.osm_gate.specs.Responses.{ByMethodWithin, ByQueryWithin, ByRouteWithin, GivesAt, GivesWithin, IsResponseWithin, ends, root_by_method}
+use Rattle.http_messages.specs.Methods.{method_of}
 use Rattle.osm_gate.specs.Routes.{route_of}
 use Rattle.http_messages.specs.Targets.{path_of}
 use Rattle.osm_gate.specs.declared.endpoint.Endpoint.{Endpoint}
 use Rattle.osm_gate.specs.declared.endpoint.Endpoint.TheVariants.{Answer, AnswerWithProof}
-use Rattle.osm_gate.specs.declared.method.Method.{Method}
-use Rattle.osm_gate.specs.declared.method.Method.TheVariants.{Get, Other, Post}
+use Rattle.http_messages.specs.declared.method.Method.{Method}
+use Rattle.http_messages.specs.declared.method.Method.TheVariants.{Get, Other, Post}
 use Rattle.http_messages.specs.declared.query_text.QuerySource.TheVariants.{Body, Target}
 use Rattle.osm_gate.specs.declared.reply.Reply.{Reply}
 use Rattle.osm_gate.specs.declared.route.Route.{Route}

@@ -4,7 +4,7 @@ use Rattle.ql_eval.specs.declared.evaluation.Report.{Report}
 use Rattle.mirror_answer.specs.Showing.{IsFaultOf, IsShownWithin, Wanted}
 use Rattle.osm_relay.specs.Pages.{document_response}
 use Rattle.osm_relay.specs.Relayed.{wanted_under}
-use Rattle.osm_relay.specs.ResponseTexts.{response_text}
+use Rattle.http_messages.specs.ResponseTexts.{response_text}
 use Rattle.osm_relay.specs.declared.judging.Judged.{Judged}
 use Rattle.osm_relay.specs.declared.judging.Judged.TheVariants.{Given, Refused}
 use Rattle.osm_relay.specs.declared.question.Question.{Question}

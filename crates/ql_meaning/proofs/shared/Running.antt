@@ -7,7 +7,6 @@ use Rattle.osm_model.specs.declared.reference.Ref.{Ref}
 use Rattle.ql_syntax.specs.StatementViews.{statement_of, statements_of}
 use Rattle.ql_syntax.specs.declared.statement.Stmt.{Stmt}
 use Rattle.ref_sets.proofs.shared.Adding.{one_more}
-use Rattle.std.proofs.Common.{false}
 use Rattle.ql_syntax.specs.Statements as tree
 use Rattle.ql_meaning.specs.Meanings.{After, AfterAll, given_by}
 use Rattle.ref_sets.specs.Sets.{IsSetOf}

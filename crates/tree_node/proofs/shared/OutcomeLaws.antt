@@ -34,6 +34,10 @@ refused_more needed all held OtherCause more is = is
 pub outcome_starts : {A F : Type 0} {cause : F → Cause} {Is : A → Type 0} {none held old : Nodes} {value : A} → Is value → ((x : List ℕ) → ¬ none x) → Outcome cause Is none (uses held old old) (Ok value)
 outcome_starts is nowhere = record { ends = inr (is, λ x. ((λ has. inl has), (λ is. elim is [ inl was ↦ was | inr needs ↦ absurd (nowhere x needs) ]))) }
 
+-- and what was used is the same
+pub outcome_starts_same : {A F : Type 0} {cause : F → Cause} {Is : A → Type 0} {none held old new : Nodes} {value : A} → Is value → ((x : List ℕ) → ¬ none x) → SameNodes old new → Outcome cause Is none (uses held old new) (Ok value)
+outcome_starts_same is nowhere same = record { ends = inr (is, λ x. ((λ has. inl ((same x).0 has)), (λ is. elim is [ inl was ↦ (same x).1 was | inr needs ↦ absurd (nowhere x needs) ]))) }
+
 -- two calls, where the second may need what the first's value says
 pub outcome_then : {A B C F G H : Type 0} {first_cause : F → Cause} {step_cause : G → Cause} {all_cause : H → Cause} {Is : A → Type 0} {Next : B → Type 0} {All : C → Type 0}
     {first second all before held old mid new : Nodes} {value : A} {next : B} {whole : C}

@@ -1,10 +1,10 @@
 -- Several walks over one shelf, one after the other, and how many nodes they can have fetched.
-use Rattle.std.proofs.Common.{◌≡◌, ◌≢◌, ℕ, suc, ◌+◌, ◌*◌, ◌<◌, ◌≤◌, List, [], ◌∷◌, ◌++◌, length, ◌⊎◌, inl, inr, Ok, Err, refl, sym, ap, subst, ◌∙◌, arith, length-append}
+use Rattle.std.proofs.Common.{Bool, ◌≡◌, ◌≢◌, ℕ, suc, ◌+◌, ◌*◌, ◌<◌, ◌≤◌, List, [], ◌∷◌, ◌++◌, length, ◌⊎◌, inl, inr, Ok, Err, refl, sym, ap, subst, ◌∙◌, arith, length-append}
 use Rattle.std.specs.List.{AllByRecursion}
 use Rattle.std.proofs.lemmas.Grind.{flat_map-append}
 use Rattle.std.proofs.lemmas.List.{append-nil}
 use Rattle.tree_node.specs.Nodes.{Leaf, Inner}
-use Rattle.tree_node.specs.Shelves.{GrownBy, SameNodes}
+use Rattle.tree_node.specs.Shelves.{GrownBy, SameNodes, Stays}
 use Rattle.tree_walk.specs.Fetches.{AreDifferent, Fetches, HasFetched, IsAmong, IsNodeText, counted_up}
 use Rattle.tree_walk.specs.Walked.{HasWalked, fetched_in}
 use Rattle.tree_walk.specs.declared.fault.WalkFault.{WalkFault}
@@ -14,9 +14,13 @@ use Rattle.tree_walk.proofs.DescentFetches.{holds_of}
 
 -- ---- walks, one after the other
 
--- no walk was made
+-- no walk was made, and what was used is the same
+pub walked_same : (held used later : Nodes) (calls from : ℕ) → SameNodes used later → HasWalked (uses held used later) calls calls from from
+walked_same held used later calls from same = record { walks = []; fetched = fetched_none held used later from same; called = refl; each = tt; some = tt }
+
+-- as where nothing was done
 pub walked_none : (held used : Nodes) (calls from : ℕ) → HasWalked (uses held used used) calls calls from from
-walked_none held used calls from = record { walks = []; fetched = fetched_none held used used from (λ x. ((λ is. is), (λ is. is))); called = refl; each = tt; some = tt }
+walked_none held used calls from = walked_same held used used calls from (λ x. ((λ is. is), (λ is. is)))
 
 -- one walk was, and ended well
 pub walked_one : {A : Type 0} (value : A) (held old new : Nodes) (calls later from to : ℕ) → later ≡ counted_up calls 1 → Fetches {A = A} (Ok value) (uses held old new) from to → HasWalked (uses held old new) calls later from to
@@ -29,7 +33,7 @@ walked_one value held old new calls later from to called fetches = record {
 }
 
 -- some walks were made, and then others
-pub walked_then : (held after old mid new : Nodes) (calls via later from at to : ℕ) → SameNodes held after
+pub walked_then : {fixed : Bool} (held after old mid new : Nodes) (calls via later from at to : ℕ) → Stays fixed held after
     → HasWalked (uses held old mid) calls via from at → HasWalked (uses after mid new) via later at to → HasWalked (uses after old new) calls later from to
 walked_then held after old mid new calls via later from at to stays one two = record {
   walks = one.walks ++ two.walks;

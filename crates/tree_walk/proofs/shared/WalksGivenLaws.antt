@@ -1,12 +1,12 @@
 -- Several walks over one shelf, one after the other, and what each gave.
-use Rattle.std.proofs.Common.{◌≡◌, ◌≤◌, ℕ, List, [], ◌∷◌, ◌++◌, length, map, ◌⊎◌, inl, inr, Result, Ok, Err, refl, sym, ap, subst, ◌∙◌, length-append}
+use Rattle.std.proofs.Common.{Bool, ◌≡◌, ◌≤◌, ℕ, List, [], ◌∷◌, ◌++◌, length, map, ◌⊎◌, inl, inr, Result, Ok, Err, refl, sym, ap, subst, ◌∙◌, length-append}
 use Rattle.std.specs.List.{AllByRecursion}
 use Rattle.std.specs.Prelude.{IfOk, OnOk}
 use Rattle.std.proofs.lemmas.Grind.{flat_map-append}
 use Rattle.std.proofs.lemmas.List.{append-nil, length-map}
 use Rattle.std.proofs.lemmas.List.Folds.{flat_map-map}
 use Rattle.tree_node.specs.Nodes.{Binding}
-use Rattle.tree_node.specs.Shelves.{GrownBy, SameNodes}
+use Rattle.tree_node.specs.Shelves.{GrownBy, SameNodes, Stays}
 use Rattle.tree_node.specs.declared.tree.Tree.{Tree}
 use Rattle.tree_node.proofs.shared.OutcomeLaws.{Nodes, uses}
 use Rattle.tree_walk.specs.Fetches.{AreDifferent, HasFetched, IsNodeText, counted_up}
@@ -17,10 +17,33 @@ use Rattle.tree_walk.specs.WalksGiven.{HasGiven, IsFine, IsMade, Walk, nodes_of}
 use Rattle.tree_walk.proofs.FetchLemmas.{all_append, all_weaker, counted_then, fetched_none, fetched_then}
 use Rattle.tree_walk.proofs.shared.GivenLaws.{gives_some}
 
+-- ---- after a call that left what was used as it was
+
+-- what was fetched was fetched since before that call
+pub fetched_before : (held old mid new : Nodes) (from to : ℕ) (nodes : List (List ℕ)) → SameNodes old mid → HasFetched (uses held mid new) from to nodes → HasFetched (uses held old new) from to nodes
+fetched_before held old mid new from to nodes same fetched = record {
+  gained = λ x. (
+    (λ has. elim ((fetched.gained x).0 has) [ inl was ↦ inl ((same x).0 was) | inr is ↦ inr is ]),
+    (λ has. elim has [ inl was ↦ (fetched.gained x).1 (inl ((same x).1 was)) | inr is ↦ (fetched.gained x).1 (inr is) ]),
+  );
+  all_held = fetched.all_held;
+  counted = fetched.counted;
+}
+
+-- so it is of a walk
+pub walk_before : (held old mid new : Nodes) (from to : ℕ) (tree : Tree) (top : List ℕ) (range : Range) (answer : Answer) → SameNodes old mid
+    → IsWalk (uses held mid new) from to tree top range answer → IsWalk (uses held old new) from to tree top range answer
+walk_before held old mid new from to tree top range answer same walk =
+    record { nodes = walk.nodes; fetched = fetched_before held old mid new from to walk.nodes same walk.fetched; differ = walk.differ; texts = walk.texts; gives = walk.gives }
+
 module _ (top_of : Tree → List ℕ) (Fine : Tree → List Binding → Type 0) where
-  -- no walk was made
+  -- no walk was made, and what was used is the same
+  pub given_same : (held used later : Nodes) (calls from : ℕ) → SameNodes used later → HasGiven top_of Fine (uses held used later) calls calls from from
+  given_same held used later calls from same = record { walks = []; fetched = fetched_none held used later from same; called = refl; each = tt }
+
+  -- as where nothing was done
   pub given_none : (held used : Nodes) (calls from : ℕ) → HasGiven top_of Fine (uses held used used) calls calls from from
-  given_none held used calls from = record { walks = []; fetched = fetched_none held used used from (λ x. ((λ is. is), (λ is. is))); called = refl; each = tt }
+  given_none held used calls from = given_same held used used calls from (λ x. ((λ is. is), (λ is. is)))
 
   -- one walk was, and ended well
   pub given_one : (held old new : Nodes) (calls later from to : ℕ) (tree : Tree) (range : Range) (answer : Answer) → later ≡ counted_up calls 1
@@ -39,7 +62,7 @@ module _ (top_of : Tree → List ℕ) (Fine : Tree → List Binding → Type 0) 
   given_call (Err fault) answer_of held old new calls later from to tree range called walk fine = tt
 
   -- some walks were made, and then others
-  pub given_then : (held after old mid new : Nodes) (calls via later from at to : ℕ) → SameNodes held after
+  pub given_then : {fixed : Bool} (held after old mid new : Nodes) (calls via later from at to : ℕ) → Stays fixed held after
       → HasGiven top_of Fine (uses held old mid) calls via from at → HasGiven top_of Fine (uses after mid new) via later at to → HasGiven top_of Fine (uses after old new) calls later from to
   given_then held after old mid new calls via later from at to stays one two = record {
     walks = one.walks ++ two.walks;

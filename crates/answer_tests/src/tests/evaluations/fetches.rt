@@ -70,6 +70,8 @@ struct Counting<S> {
 impl<'a, S: Shelf<'a>> Shelf<'a> for Counting<S> {
     ghost holds = { λ counting. S.holds counting.shelf };
 
+    ghost is_fixed = { S.is_fixed };
+
     ghost used = { λ counting. S.used counting.shelf };
 
     ghost takes_memory = { S.takes_memory };
@@ -86,5 +88,9 @@ impl<'a, S: Shelf<'a>> Shelf<'a> for Counting<S> {
     fn fetch_node(&mut self, key: &Digest) -> Result<Fetched<'a>, ShelfFault> {
         self.fetches = self.fetches.saturating_add(1);
         self.shelf.fetch_node(key)
+    }
+
+    fn announce(&mut self, top: &Digest, lo: &[u8], hi: &[u8]) {
+        self.shelf.announce(top, lo, hi);
     }
 }

@@ -5,7 +5,7 @@ use Rattle.mirror_reply.specs.Fetches.{Ends}
 use Rattle.mirror_reply.specs.Taken.{Tells}
 use Rattle.mirror_reply.specs.declared.fetch_fault.FetchFault.{FetchFault}
 use Rattle.mirror_reply.specs.declared.fetch_fault.FetchFault.TheVariants.{Memory}
-use Rattle.mirror_reply.specs.declared.progress.Progress.TheVariants.{Failed, More, Whole}
+use Rattle.mirror_reply.specs.declared.progress.Progress.TheVariants.{Whole}
 use Rattle.mirror_reply.proofs.AskingLemmas.{ends-broken, ends-closed, ends-closed_whole, ends-endless, ends-failed, ends-starved, ends-whole, hearing-more, noted-some, taken-itself}
 use Rattle.mirror_reply.proofs.TakenLemmas.{whole-kept}
 use Rattle.mirror_reply.proofs.fetching.receive.Goals as goal

@@ -1,5 +1,5 @@
 -- What was received so far.
-use Rattle.std.proofs.Common.{◌-◌, ◌≡◌, ◌++◌, List, ℕ, [], ◌≤◌}
+use Rattle.std.proofs.Common.{◌-◌, ◌≡◌, ◌++◌, List, ℕ, ◌≤◌}
 use Rattle.std.specs.Prelude.{Some}
 use Rattle.mirror_reply.specs.Calls.{Call}
 use Rattle.mirror_reply.specs.internal.Asking.{IsHearing, IsReady}

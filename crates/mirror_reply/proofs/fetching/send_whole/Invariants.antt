@@ -1,5 +1,5 @@
 -- What was sent so far.
-use Rattle.std.proofs.Common.{length, ◌-◌, ◌≡◌, ◌∷◌, ◌++◌, List, [], true, ◌≤◌}
+use Rattle.std.proofs.Common.{length, ◌-◌, ◌≡◌, ◌∷◌, ◌++◌, List, true, ◌≤◌}
 use Rattle.std.specs.Prelude.{Some}
 use Rattle.mirror_reply.specs.Calls.{Call, opened}
 use Rattle.mirror_reply.specs.internal.Asking.{IsSending}

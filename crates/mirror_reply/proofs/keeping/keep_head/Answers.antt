@@ -1,4 +1,4 @@
-use Rattle.std.proofs.Common.{◌∙◌, ◌≡◌, ◌≤◌, ◌-◌, ◌++◌, ap, arith, length, List, rules, subst, sym, take, ℕ}
+use Rattle.std.proofs.Common.{◌∙◌, ◌≡◌, ◌-◌, ◌++◌, ap, arith, length, List, rules, subst, sym, take, ℕ}
 use Rattle.std.specs.Prelude.{None, Some}
 use Rattle.std.proofs.lemmas.List.{length-take-le}
 use Rattle.http_messages.specs.HeadEnds.{head_length}

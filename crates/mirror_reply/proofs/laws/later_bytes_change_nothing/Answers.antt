@@ -1,4 +1,4 @@
-use Rattle.mirror_reply.proofs.SpelledLemmas.{fault-append, reply-append}
+use Rattle.mirror_reply.proofs.shared.SpelledLemmas.{fault-append, reply-append}
 use Rattle.mirror_reply.proofs.laws.later_bytes_change_nothing.Goals as goal
 
 pub returns-clause-reply : goal.returns-clause-reply

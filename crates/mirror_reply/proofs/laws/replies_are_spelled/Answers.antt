@@ -1,4 +1,4 @@
-use Rattle.mirror_reply.proofs.SpelledLemmas.{reply-iff}
+use Rattle.mirror_reply.proofs.shared.SpelledLemmas.{reply-iff}
 use Rattle.mirror_reply.proofs.laws.replies_are_spelled.Goals as goal
 
 pub returns : goal.returns

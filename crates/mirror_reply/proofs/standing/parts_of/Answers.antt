@@ -1,4 +1,4 @@
-use Rattle.std.proofs.Common.{◌∙◌, ◌≡◌, ◌-◌, ◌<◌, ◌≤◌, List, drop, subst, sym, take, true, false, ℕ, ap, length, arith}
+use Rattle.std.proofs.Common.{◌∙◌, ◌-◌, ◌<◌, ◌≤◌, drop, subst, sym, take, false, ap, length, arith}
 use Rattle.std.specs.Prelude.{IfSome, IfNone, Option, Some, None}
 use Rattle.std.proofs.lemmas.List.{length-drop, length-take-le}
 use Rattle.mirror_reply.specs.Standings.{Stands, by_body, failed, replied}

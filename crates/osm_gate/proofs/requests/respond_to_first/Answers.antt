@@ -1,6 +1,6 @@
 use Rattle.std.proofs.Common.{◌∙◌, sym, refl}
 use Rattle.http_messages.specs.Requests.{Decided, asked, refused}
-use Rattle.osm_gate.specs.ResponseTexts.{response_text}
+use Rattle.http_messages.specs.ResponseTexts.{response_text}
 use Rattle.osm_gate.specs.Responses.{refused_response}
 use Rattle.http_messages.specs.Decisions.{asked_of}
 use Rattle.osm_gate.proofs.RespondingLemmas.{responds-one}

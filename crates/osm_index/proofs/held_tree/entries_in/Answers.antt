@@ -1,3 +1,4 @@
+use Rattle.std.proofs.Common.{refl}
 use Rattle.std.proofs.Math.Logic.{∥∥₁_map}
 use Rattle.tree_node.specs.Recorders.{RecorderHolds}
 use Rattle.tree_walk.specs.Ranges.{range_of}
@@ -20,3 +21,9 @@ memory_alone-requires c = ∥∥₁_map c.requires.held (λ (p, holds).
     let top = c.args.top.now.0 in
     ends_well shelf c.range.new.shelf c.range.ensures.stays (met_held p tree top (RecorderHolds shelf) holds (range_of c.args.keys.now))
     (c.in-Err.ensures.answer (shape_in p) (p.entries tree) (held_top p tree top (RecorderHolds shelf) holds)))
+
+pub returns-in-Ok-clause-stays : goal.returns-in-Ok-clause-stays
+returns-in-Ok-clause-stays c = λ x. ((λ has. (c.range.ensures.stays x).0 refl has), (λ has. (c.range.ensures.stays x).1 has))
+
+pub returns-in-Err-clause-stays : goal.returns-in-Err-clause-stays
+returns-in-Err-clause-stays c = λ x. ((λ has. (c.range.ensures.stays x).0 refl has), (λ has. (c.range.ensures.stays x).1 has))

@@ -30,7 +30,7 @@ returns-in-Some-ending g c = λ s before rounds taken tells is heeded called.
     sym (subst (λ (xs : List Standing). Some c.in-Some.at ≡ position (λ (x : Standing). x.number == c.args.number) xs) c.deref.ensures.value c.in-Some.ensures) in
     let first = position-Some (λ (x : Standing). x.number == c.args.number) there c.in-Some.at one at in
     let was = old_at there c.in-Some.at _ one first.0 c.index_mut-conversation.ensures.value in
-    let client = c.into_client-client.ensures ∙ ap (λ (x : Standing). x.client) (c.remove.ensures.value ∙ get_or-set_same there c.in-Some.at one c.remove.result first.0) in
+    let client = c.into_wires-client.ensures.client ∙ ap (λ (x : Standing). x.client) (c.remove.ensures.value ∙ get_or-set_same there c.in-Some.at one c.remove.result first.0) in
     let logged = c.let_go.ensures ∙ ap (λ (w : Log). noted (left c.args.number whole w) (g.N.Network.log c.take_turn-turn.new.network)) client
     ∙ ap (noted (left c.args.number whole one.client)) c.take_turn-turn.ensures.log in
     subst (λ (xs : List Standing). Moves s rounds taken (g.N.Network.log c.let_go.new.self) xs) (sym c.remove.ensures.items)

@@ -1,20 +1,20 @@
 use Rattle.std.proofs.Common.{List, sym, subst}
 use Rattle.tree_walk.specs.Ranges.{Range}
-use Rattle.tree_walk.proofs.shared.WalksGivenLaws.{given_none, given_then}
+use Rattle.tree_walk.proofs.shared.WalksGivenLaws.{given_same, given_then}
 use Rattle.osm_keys.specs.Ranges.{AreCellRanges}
 use Rattle.ql_eval.specs.internal.Boxes.{IsCellsAsk, IsFoundIn}
 use Rattle.ql_eval.proofs.BoxLemmas.{box_needs, box_set, needs_box}
-use Rattle.ql_eval.proofs.LoopLemmas.{gone_all, gone_next, gone_none, gone_stops}
+use Rattle.ql_eval.proofs.LoopLemmas.{gone_all, gone_next, gone_same, gone_stops}
 use Rattle.ql_eval.proofs.GivenLemmas.{none_given, sorted_given}
 use Rattle.ql_eval.proofs.boxes.find_in_box.Goals as goal
 
 pub loop-keys-init : goal.loop-keys-init
 loop-keys-init g c = record {
-  stays = λ x. ((λ has. has), (λ has. has));
-  grows = λ x has. has;
-  walked = given_none _ _ _ _ _ _;
+  stays = c.announce_cells.ensures.stays;
+  grows = λ x has. (c.announce_cells.ensures.used x).1 has;
+  walked = given_same _ _ _ _ _ _ _ c.announce_cells.ensures.used;
   named = none_given _ _ c.new-names.ensures.items;
-  answer = λ p is under. rw c.new-names.ensures.items (gone_none p c.deref-keys-items.result.now (IsFoundIn p.objects c.args.area.now) IsCellsAsk);
+  answer = λ p is under. rw c.new-names.ensures.items (gone_same p c.deref-keys-items.result.now (IsFoundIn p.objects c.args.area.now) IsCellsAsk c.announce_cells.ensures.used);
 }
 
 pub returns-in_err-add_range-clause-answer : goal.returns-in_err-add_range-clause-answer
@@ -25,7 +25,7 @@ returns-in_err-add_range-clause-answer g c = λ p is under.
 
 pub loop-keys-preserved : goal.loop-keys-preserved
 loop-keys-preserved g c = record {
-  stays = λ x. ((λ has. (c.loop-keys.invariant.stays x).0 ((c.add_range.ensures.stays x).0 has)), (λ has. (c.add_range.ensures.stays x).1 ((c.loop-keys.invariant.stays x).1 has)));
+  stays = λ x. ((λ e has. (c.loop-keys.invariant.stays x).0 e ((c.add_range.ensures.stays x).0 e has)), (λ has. (c.add_range.ensures.stays x).1 ((c.loop-keys.invariant.stays x).1 has)));
   grows = λ x has. c.add_range.ensures.grows x (c.loop-keys.invariant.grows x has);
   walked = given_then _ _ _ _ _ _ _ _ _ _ _ _ _ c.add_range.ensures.stays c.loop-keys.invariant.walked c.in_ok-add_range.ensures.walked;
   named = c.in_ok-add_range.ensures.named;

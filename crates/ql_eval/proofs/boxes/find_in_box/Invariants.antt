@@ -1,7 +1,7 @@
 use Rattle.ql_eval.specs.TrueFaults.{IsNamedIn}
 use Rattle.ql_eval.specs.internal.Giving.{AllGiven}
 use Rattle.std.proofs.Common.{ℕ, List, []}
-use Rattle.tree_node.specs.Shelves.{SameNodes}
+use Rattle.tree_node.specs.Shelves.{Stays}
 use Rattle.tree_node.proofs.shared.OutcomeLaws.{uses}
 use Rattle.tree_walk.specs.WalksGiven.{HasGiven}
 use Rattle.osm_keys.specs.Manifests.{top_among}
@@ -14,7 +14,7 @@ use Rattle.ql_eval.proofs.boxes.find_in_box.Given as goal
 
 abbrev pub invariant-loop-keys : goal.invariant-loop-keys
 invariant-loop-keys g l = record {
-  stays : SameNodes (g.S.Shelf.holds l.fn.shelf) (g.S.Shelf.holds l.shelf);
+  stays : Stays g.S.Shelf.is_fixed (g.S.Shelf.holds l.fn.shelf) (g.S.Shelf.holds l.shelf);
   grows : (bytes : List ℕ) → g.S.Shelf.used l.fn.shelf bytes → g.S.Shelf.used l.shelf bytes;
   walked : HasGiven (top_among l.manifest.tops) HaveForm (uses (g.S.Shelf.holds l.shelf) (g.S.Shelf.used l.fn.shelf) (g.S.Shelf.used l.shelf)) l.fn.tally.calls l.tally.calls l.fn.tally.fetches l.tally.fetches;
   named : AllGiven (IsNamedIn (g.S.Shelf.used l.shelf) l.manifest) l.names.items;

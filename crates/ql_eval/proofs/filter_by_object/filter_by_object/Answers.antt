@@ -10,7 +10,7 @@ use Rattle.ql_syntax.specs.StatementViews.{filters_of}
 use Rattle.ref_sets.specs.NamedSets.{lists_of}
 use Rattle.ql_eval.specs.internal.Links.{AreThere, IsObjectAsk}
 use Rattle.ql_eval.proofs.LinkLemmas.{set_of_added}
-use Rattle.ql_eval.proofs.LoopLemmas.{gone_all, gone_next, gone_stops, gone_none}
+use Rattle.ql_eval.proofs.LoopLemmas.{gone_all, gone_next, gone_stops, gone_same}
 use Rattle.ql_eval.proofs.PassingLemmas.{PassedWell}
 use Rattle.ql_eval.specs.internal.Narrowing.{IsPassingAs}
 use Rattle.ql_eval.proofs.GivenLemmas.{none_given, sorted_given}
@@ -58,11 +58,11 @@ returns-clause-there g c =
 
 pub loop-name-init : goal.loop-name-init
 loop-name-init g c = record {
-  later = g.met.W.Source.itself _;
-  walked = g.met.W.Source.no_walk _;
+  later = c.announce_all.ensures.later;
+  walked = c.announce_all.ensures.walked;
   there = λ r among. absurd (none r among);
   named = none_given _ _ c.new-refs.ensures.items;
-  answer = λ p is under there. rw c.new-refs.ensures.items (gone_none p c.as_slice-names.result.now (IsPassingAs p.objects (lists_of c.args.sets.now.named.items) (filters_of c.args.before.now ++ filters_of c.args.after.now)) IsObjectAsk);
+  answer = λ p is under there. rw c.new-refs.ensures.items (gone_same p c.as_slice-names.result.now (IsPassingAs p.objects (lists_of c.args.sets.now.named.items) (filters_of c.args.before.now ++ filters_of c.args.after.now)) IsObjectAsk c.announce_all.ensures.used);
 }
 
 pub add_passing-requires-clause-name_named : goal.add_passing-requires-clause-name_named

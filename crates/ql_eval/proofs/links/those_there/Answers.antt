@@ -1,7 +1,7 @@
 use Rattle.std.proofs.lemmas.List.{get_or_default}
 use Rattle.ql_eval.specs.internal.Links.{IsObjectAsk, IsThereAs}
 use Rattle.ql_eval.proofs.LinkLemmas.{set_of_added}
-use Rattle.ql_eval.proofs.LoopLemmas.{gone_all, gone_next, gone_stops, gone_none}
+use Rattle.ql_eval.proofs.LoopLemmas.{gone_all, gone_next, gone_same, gone_stops}
 use Rattle.ql_eval.proofs.GivenLemmas.{none_given, sorted_given}
 use Rattle.ql_eval.proofs.links.those_there.Goals as goal
 
@@ -28,10 +28,10 @@ returns-clause-answer g c = λ p is under.
 
 pub loop-name-init : goal.loop-name-init
 loop-name-init g c = record {
-  later = g.met.W.Source.itself _;
-  walked = g.met.W.Source.no_walk _;
+  later = c.announce_all.ensures.later;
+  walked = c.announce_all.ensures.walked;
   named = none_given _ _ c.new-there.ensures.items;
-  answer = λ p is under. rw c.new-there.ensures.items (gone_none p c.args.names.now (IsThereAs p.objects) IsObjectAsk);
+  answer = λ p is under. rw c.new-there.ensures.items (gone_same p c.args.names.now (IsThereAs p.objects) IsObjectAsk c.announce_all.ensures.used);
 }
 
 pub returns-clause-named : goal.returns-clause-named

@@ -1,4 +1,4 @@
-use Rattle.std.proofs.Common.{◌++◌, ◌∙◌, List, length, subst}
+use Rattle.std.proofs.Common.{◌++◌, ◌∙◌, [], List, length, refl, subst}
 use Rattle.std.proofs.lemmas.List.{get_or_default, take_all}
 use Rattle.osm_model.specs.declared.reference.Ref.{Ref}
 use Rattle.ql_eval.specs.internal.Objects.{AreKnownThere, IsKnownThere}
@@ -6,10 +6,11 @@ use Rattle.ql_eval.proofs.KnownLemmas.{known_more, there_later}
 use Rattle.std.proofs.lemmas.List.Elements.{Contains-get_or}
 use Rattle.ql_eval.specs.internal.Links.{IsObjectAsk}
 use Rattle.ql_eval.specs.internal.Printing.{line_at, lines_at}
-use Rattle.ql_eval.proofs.PrintLemmas.{printed_all, printed_next, printed_stops}
-use Rattle.ql_eval.proofs.WritingLemmas.{written_then}
+use Rattle.ref_sets.proofs.shared.Adding.{none}
+use Rattle.ql_eval.proofs.PrintLemmas.{printed_all, printed_next, printed_same, printed_stops}
+use Rattle.ql_eval.proofs.WritingLemmas.{written_none, written_then}
 use Rattle.ql_eval.specs.internal.Metering.{IsCounted}
-use Rattle.ql_eval.proofs.MeterLemmas.{clear_before, lines_counted, lines_stop}
+use Rattle.ql_eval.proofs.MeterLemmas.{clear_before, lines_counted, lines_stop, none_counted}
 use Rattle.ql_eval.proofs.print.print_objects.Goals as goal
 
 pub returns-in_err-print_object-clause-wrote : goal.returns-in_err-print_object-clause-wrote
@@ -20,6 +21,17 @@ returns-in_err-print_object-clause-answer g c = λ p is under there.
     printed_stops p c.args.names.now IsObjectAsk (line_at c.args.form p.objects c.args.mode) c.loop-name.name-index _ c.loop-name-test.true (get_or_default c.args.names.now c.loop-name.name-index _ _ c.loop-name-test.true)
     _ c.from_residual.ensures.1 (λ x. g.met.W.Source.grows _ _ x c.print_object.ensures.later)
     (c.loop-name.invariant.answer p is under there) (c.in_err-print_object.ensures.answer p is (g.met.W.Source.same_under _ _ p c.loop-name.invariant.later under) (there _ (Contains-get_or c.args.names.now c.loop-name.name-index _ c.loop-name-test.true)))
+
+pub loop-name-init : goal.loop-name-init
+loop-name-init g c = record {
+  later = c.announce_all.ensures.later;
+  walked = c.announce_all.ensures.walked;
+  kept = refl;
+  wrote = ([], written_none);
+  there = λ r among. absurd (none r among);
+  answer = λ p is under there. printed_same p c.args.names.now IsObjectAsk (line_at c.args.form p.objects c.args.mode) c.announce_all.ensures.used;
+  counted = λ p is under there clear. none_counted c.args.meter.now.spent;
+}
 
 pub loop-name-preserved : goal.loop-name-preserved
 loop-name-preserved g c = record {

@@ -1,4 +1,4 @@
-use Rattle.std.proofs.Common.{◌++◌, ◌∷◌, [], Vec, Global, sym, ap, subst, ◌∙◌}
+use Rattle.std.proofs.Common.{Vec, Global, sym, ap, subst, ◌∙◌}
 use Rattle.osm_model.specs.declared.reference.Ref.{Ref}
 use Rattle.ref_sets.proofs.shared.Adding.{adds_all, adds_more, adds_nothing, adds_one, adds_start}
 use Rattle.ref_sets.specs.Adding.{Adds}

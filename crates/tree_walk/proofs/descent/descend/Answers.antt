@@ -17,7 +17,7 @@ use Rattle.tree_walk.specs.declared.fault.WalkFault.{WalkFault}
 use Rattle.tree_walk.specs.declared.pending.Pending.{Pending}
 use Rattle.tree_walk.proofs.DescentFetches.{FetchingDown, down_last, down_start, down_step, down_stop}
 use Rattle.tree_walk.proofs.DescentLemmas.{HonestDown, honest_down_end, honest_down_start, honest_down_step, honest_down_stop}
-use Rattle.tree_walk.proofs.FetchLemmas.{same_then}
+use Rattle.tree_walk.proofs.FetchLemmas.{stays_then}
 use Rattle.tree_node.proofs.shared.Results.{err_is}
 use Rattle.tree_walk.proofs.ReasonLemmas.{refused_as}
 use Rattle.tree_walk.proofs.descent.descend.Goals as goal
@@ -51,7 +51,7 @@ loop-level-preserved g c =
     record {
       within = omega (arith, c.loop-level.invariant.within);
       calls = c.open_level.ensures.calls ∙ c.loop-level.invariant.calls;
-      stays = same_then _ _ _ c.loop-level.invariant.stays c.open_level.ensures.stays;
+      stays = stays_then _ _ _ _ c.loop-level.invariant.stays c.open_level.ensures.stays;
       grows = λ bytes was. c.open_level.ensures.grows bytes (c.loop-level.invariant.grows bytes was);
       order = c.in_ok-pending.ensures.order;
       wanted = λ top all. c.in_ok-pending.ensures.wanted top (subst (λ (ps : List Pending). AreWanted (g.S.Shelf.used c.loop-level.shelf) (number_of c.args.way.now.tree) top c.loop-level.level (spots_of ps)) (sym c.as_slice.ensures.value) (c.loop-level.invariant.wanted top all));
@@ -84,7 +84,7 @@ pub loop-level-init : goal.loop-level-init
 loop-level-init g c = record {
   within = omega arith;
   calls = refl;
-  stays = λ bytes. ((λ is. is), (λ is. is));
+  stays = λ bytes. ((λ _ is. is), (λ is. is));
   grows = λ bytes was. was;
   order = c.requires.order;
   wanted = λ top all. all;

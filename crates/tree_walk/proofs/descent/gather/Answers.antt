@@ -127,28 +127,28 @@ returns-in_err-entries-clause-told g c =
     refused_for (number_of c.args.tree) c.args.top.now.0 _ _ (Top c.args.top.now.0) c.in_err-entries.field-0.0 c.from_residual.result (err_is c.from_residual.result c.in_err-entries.field-0.0 c.from_residual.ensures.1) FromTop c.in_err-entries.ensures.told
 
 pub returns-in_err-entries-clause-none : goal.returns-in_err-entries-clause-none
-returns-in_err-entries-clause-none g c = λ none.
-    refused_missing c.in_err-entries.field-0.0 (Err c.in_err-entries.field-0.0) c.from_residual.result refl (c.in_err-entries.ensures.none none) (err_is c.from_residual.result c.in_err-entries.field-0.0 c.from_residual.ensures.1)
+returns-in_err-entries-clause-none g c = λ fixed none.
+    refused_missing c.in_err-entries.field-0.0 (Err c.in_err-entries.field-0.0) c.from_residual.result refl (c.in_err-entries.ensures.none fixed none) (err_is c.from_residual.result c.in_err-entries.field-0.0 c.from_residual.ensures.1)
 
 pub returns-in_err-take-in-Leaf-clause-told : goal.returns-in_err-take-in-Leaf-clause-told
 returns-in_err-take-in-Leaf-clause-told g c =
     refused_memory _ _ _ _ c.from_residual-in_err-take-in-Leaf.result (err_is c.from_residual-in_err-take-in-Leaf.result Memory c.from_residual-in_err-take-in-Leaf.ensures.1)
 
 pub returns-in_err-take-in-Leaf-clause-none : goal.returns-in_err-take-in-Leaf-clause-none
-returns-in_err-take-in-Leaf-clause-none g c = λ none. absurd (let no = c.in_ok-entries.ensures.none none in cc)
+returns-in_err-take-in-Leaf-clause-none g c = λ fixed none. absurd (let no = c.in_ok-entries.ensures.none fixed none in cc)
 
 pub returns-in_err-pick-in-Inner-clause-told : goal.returns-in_err-pick-in-Inner-clause-told
 returns-in_err-pick-in-Inner-clause-told g c =
     refused_memory _ _ _ _ c.from_residual-in_err-pick-in-Inner.result (err_is c.from_residual-in_err-pick-in-Inner.result Memory c.from_residual-in_err-pick-in-Inner.ensures.1)
 
 pub returns-in_err-pick-in-Inner-clause-none : goal.returns-in_err-pick-in-Inner-clause-none
-returns-in_err-pick-in-Inner-clause-none g c = λ none. absurd (let no = c.in_ok-entries.ensures.none none in cc)
+returns-in_err-pick-in-Inner-clause-none g c = λ fixed none. absurd (let no = c.in_ok-entries.ensures.none fixed none in cc)
 
 pub returns-in_ok-take-in-Leaf-clause-none : goal.returns-in_ok-take-in-Leaf-clause-none
-returns-in_ok-take-in-Leaf-clause-none g c = λ none. absurd (let no = c.in_ok-entries.ensures.none none in cc)
+returns-in_ok-take-in-Leaf-clause-none g c = λ fixed none. absurd (let no = c.in_ok-entries.ensures.none fixed none in cc)
 
 pub returns-in_ok-pick-in-Inner-clause-none : goal.returns-in_ok-pick-in-Inner-clause-none
-returns-in_ok-pick-in-Inner-clause-none g c = λ none. absurd (let no = c.in_ok-entries.ensures.none (λ x is. none x ((c.descend.ensures.stays x).1 is)) in cc)
+returns-in_ok-pick-in-Inner-clause-none g c = λ fixed none. absurd (let no = c.in_ok-entries.ensures.none fixed (λ x is. none x ((c.descend.ensures.stays x).1 is)) in cc)
 
 pub returns-in_ok-pick-in-Inner-clause-told : goal.returns-in_ok-pick-in-Inner-clause-told
 returns-in_ok-pick-in-Inner-clause-told g c =

@@ -16,7 +16,7 @@ use Rattle.tree_walk.specs.declared.fault.WalkFault.{WalkFault}
 use Rattle.tree_walk.specs.declared.fault.WalkFault.TheVariants.{Memory}
 use Rattle.tree_walk.specs.declared.pending.Pending.{Pending}
 use Rattle.tree_walk.proofs.AccountLemmas.{gains_none, gains_then}
-use Rattle.tree_walk.proofs.FetchLemmas.{same_then}
+use Rattle.tree_walk.proofs.FetchLemmas.{stays_then}
 use Rattle.tree_walk.specs.Given.{IsEntered}
 use Rattle.tree_walk.specs.Uses.{nodes_around}
 use Rattle.tree_walk.proofs.GivenLevels.{ReadingLevel, reading_end, reading_start, reading_step, reading_texts, those_of_next}
@@ -95,7 +95,7 @@ loop-node-preserved g c =
     (rest_is c.args.nodes.now c.loop-node.node-index _ c.loop-node-test.true) so_given.2 in
     record {
       calls = c.open_inner.ensures.calls ∙ c.loop-node.invariant.calls;
-      stays = same_then _ _ _ c.loop-node.invariant.stays c.open_inner.ensures.stays;
+      stays = stays_then _ _ _ _ c.loop-node.invariant.stays c.open_inner.ensures.stays;
       grows = λ bytes was. c.open_inner.ensures.grows bytes (c.loop-node.invariant.grows bytes was);
       level = (Some _, next, rw picked.2 ordered);
       wanted = λ top all.
@@ -158,7 +158,7 @@ loop-node-init g c =
     let none : spots_of c.new-pending.result.items ≡ [] = ap spots_of c.new-pending.ensures.items in
     record {
       calls = refl;
-      stays = λ bytes. ((λ is. is), (λ is. is));
+      stays = λ bytes. ((λ _ is. is), (λ is. is));
       grows = λ bytes was. was;
       level = (None, level_start c.args.level used c.args.tally.now.fetches (g.S.Shelf.holds c.args.shelf.now) spots c.requires.order, none);
       wanted = λ top all. subst (λ (found : List (Option (List ℕ) × Link)). AreWanted used (number_of c.args.way.now.tree) top (c.args.level - 1) found) (sym none) tt;

@@ -1,7 +1,7 @@
 use Rattle.std.proofs.Common.{◌≡◌, ◌-◌, [], ℕ, List, Option, drop}
 use Rattle.tree_node.specs.NodeRefs.{number_of}
 use Rattle.tree_node.specs.Nodes.{Link, Node}
-use Rattle.tree_node.specs.Shelves.{SameNodes}
+use Rattle.tree_node.specs.Shelves.{Stays}
 use Rattle.tree_node.specs.Trees.{links_in}
 use Rattle.tree_walk.specs.internal.Accounts.{Gains}
 use Rattle.tree_walk.specs.internal.Openings.{IsClosedChild, IsOpenChild}
@@ -22,7 +22,7 @@ use Rattle.tree_walk.proofs.descent.open_level.Given as goal
 abbrev pub invariant-loop-node : goal.invariant-loop-node
 invariant-loop-node g l = record {
   calls : l.tally.calls ≡ l.fn.tally.calls;
-  stays : SameNodes (g.S.Shelf.holds l.fn.shelf) (g.S.Shelf.holds l.shelf);
+  stays : Stays g.S.Shelf.is_fixed (g.S.Shelf.holds l.fn.shelf) (g.S.Shelf.holds l.shelf);
   grows : (bytes : List ℕ) → g.S.Shelf.used l.fn.shelf bytes → g.S.Shelf.used l.shelf bytes;
   level : (low : Option (List ℕ)) × FetchingLevel l.level low (nodes_around g.S.Shelf.holds g.S.Shelf.used l.fn.shelf l.shelf) l.fn.tally.fetches l.tally.fetches (spots_of (drop l.node-index l.nodes))
       × IsOrderedUpTo low (spots_of l.pending.items);

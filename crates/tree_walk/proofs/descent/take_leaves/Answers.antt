@@ -15,7 +15,7 @@ use Rattle.tree_walk.specs.declared.fault.WalkFault.{WalkFault}
 use Rattle.tree_walk.specs.declared.fault.WalkFault.TheVariants.{Memory}
 use Rattle.tree_walk.specs.declared.pending.Pending.{Pending}
 use Rattle.tree_walk.proofs.AccountLemmas.{gains_none, gains_then}
-use Rattle.tree_walk.proofs.FetchLemmas.{same_then}
+use Rattle.tree_walk.proofs.FetchLemmas.{stays_then}
 use Rattle.tree_walk.specs.Given.{FromLeaves, wanted_of}
 use Rattle.tree_walk.specs.Uses.{nodes_around}
 use Rattle.tree_walk.proofs.GivenLevels.{ReadingLevel, reading_end, reading_start, reading_step, reading_texts, those_of_next}
@@ -71,7 +71,7 @@ loop-node-init g c =
     let used = g.S.Shelf.used c.args.shelf.now in
     record {
       calls = refl;
-      stays = λ bytes. ((λ is. is), (λ is. is));
+      stays = λ bytes. ((λ _ is. is), (λ is. is));
       grows = λ bytes was. was;
       level = (None, level_start 0 used c.args.tally.now.fetches (g.S.Shelf.holds c.args.shelf.now) spots c.requires.order);
       honest = ([], gains_none g.G.Gather.gathers c.args.gathered.now, honest_start items has (number_of c.args.way.now.tree) 0 spots used);
@@ -102,7 +102,7 @@ loop-node-preserved g c =
     (rest_is c.args.nodes.now c.loop-node.node-index _ c.loop-node-test.true) so_given.2 in
     record {
       calls = c.open_leaf.ensures.calls ∙ c.loop-node.invariant.calls;
-      stays = same_then _ _ _ c.loop-node.invariant.stays c.open_leaf.ensures.stays;
+      stays = stays_then _ _ _ _ c.loop-node.invariant.stays c.open_leaf.ensures.stays;
       grows = λ bytes was. c.open_leaf.ensures.grows bytes (c.loop-node.invariant.grows bytes was);
       level = (Some _, next);
       honest = (found ++ picked.0, gains_then g.G.Gather.gathers c.args.gathered.now c.loop-node.gathered c.take.new.gathered [] [] found picked.0 c.loop-node.invariant.honest.1 picked.2, honest);

@@ -14,8 +14,8 @@ returns-in_err-gather-clause-told g c =
     refused_as _ _ _ _ c.in_err-gather.field-0.0 c.from_residual.result (err_is c.from_residual.result c.in_err-gather.field-0.0 c.from_residual.ensures.1) c.in_err-gather.ensures.told
 
 pub returns-in_err-gather-clause-none : goal.returns-in_err-gather-clause-none
-returns-in_err-gather-clause-none g c = λ none.
-    refused_missing c.in_err-gather.field-0.0 (Err c.in_err-gather.field-0.0) c.from_residual.result refl (c.in_err-gather.ensures.none none) (err_is c.from_residual.result c.in_err-gather.field-0.0 c.from_residual.ensures.1)
+returns-in_err-gather-clause-none g c = λ fixed none.
+    refused_missing c.in_err-gather.field-0.0 (Err c.in_err-gather.field-0.0) c.from_residual.result refl (c.in_err-gather.ensures.none fixed none) (err_is c.from_residual.result c.in_err-gather.field-0.0 c.from_residual.ensures.1)
 
 pub returns-in_err-gather-clause-answer : goal.returns-in_err-gather-clause-answer
 returns-in_err-gather-clause-answer g c = λ shape entries is.

@@ -1,6 +1,6 @@
 use Rattle.std.proofs.Common.{subst, true}
 use Rattle.mirror_reply.specs.internal.Stages.{SaysOf}
-use Rattle.mirror_reply.specs.declared.progress.Progress.TheVariants.{Failed, More, Whole}
+use Rattle.mirror_reply.specs.declared.progress.Progress.TheVariants.{Failed, Whole}
 use Rattle.mirror_reply.proofs.StageLemmas.{closed-decides}
 use Rattle.mirror_reply.proofs.TakenLemmas.{says-waits, view-tells}
 use Rattle.mirror_reply.proofs.reply.Reply.close.Goals as goal

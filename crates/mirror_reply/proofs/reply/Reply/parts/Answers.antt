@@ -1,4 +1,3 @@
-use Rattle.std.proofs.Common.{List, ℕ}
 use Rattle.std.specs.Prelude.{IfNone, IfSome, Option, Some, None}
 use Rattle.mirror_reply.specs.declared.parts.Parts.{Parts}
 use Rattle.mirror_reply.proofs.TakenLemmas.{view-none, view-reply}

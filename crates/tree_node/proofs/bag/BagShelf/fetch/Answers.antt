@@ -16,7 +16,7 @@ returns-in-Some-clause-given c = (
 )
 
 pub returns-in-Some-clause-none : goal.returns-in-Some-clause-none
-returns-in-Some-clause-none c = λ none. absurd (none c.bytes.result.now
+returns-in-Some-clause-none c = λ _ none. absurd (none c.bytes.result.now
     (c.in-Some.place, c.index.result.now, c.in-Some.ensures.found.0, sym c.index.ensures, sym c.bytes.ensures)
     (ap digest c.bytes.ensures ∙ ap (λ p. digest (node_of p)) c.index.ensures ∙ c.in-Some.ensures.found.1 c.index.result.now))
 

@@ -1,4 +1,4 @@
-use Rattle.std.proofs.Common.{◌≡◌, Ok, Some, IfOk, Option, Result, List, ℕ, sym, ap, subst, ◌∙◌, arith}
+use Rattle.std.proofs.Common.{◌≡◌, Ok, Some, IfOk, Result, List, ℕ, sym, subst, ◌∙◌, arith}
 use Rattle.tree_node.specs.NodeRefs.{node_read}
 use Rattle.tree_node.specs.Nodes.{Spells}
 use Rattle.tree_node.specs.declared.fault.NodeFault.{NodeFault}

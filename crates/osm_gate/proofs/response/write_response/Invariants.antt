@@ -1,7 +1,0 @@
--- The head, and the parts so far.
-use Rattle.std.proofs.Common.{◌≡◌, ◌++◌, take}
-use Rattle.osm_gate.specs.internal.Adding.{body_of}
-use Rattle.osm_gate.proofs.response.write_response.Given as goal
-
-abbrev pub invariant-loop-part : goal.invariant-loop-part
-invariant-loop-part l = l.output.items ≡ (l.initial.output.items ++ body_of (take l.part-index l.body))

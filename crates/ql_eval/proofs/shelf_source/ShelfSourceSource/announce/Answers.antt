@@ -1,0 +1,27 @@
+use Rattle.std.proofs.Common.{List, ℕ, refl}
+use Rattle.tree_walk.proofs.shared.WalksGivenLaws.{given_same}
+use Rattle.osm_keys.specs.Manifests.{top_among}
+use Rattle.ql_eval.specs.Forms.{HaveForm}
+use Rattle.ql_eval.proofs.GivenLemmas.{given_later}
+use Rattle.ql_eval.proofs.KnownLemmas.{absent_later, remembers_later}
+use Rattle.ql_eval.proofs.RememberLemmas.{all_recalled_later}
+use Rattle.ql_eval.proofs.shelf_source.ShelfSourceSource.announce.Goals as goal
+
+pub returns-clause-later : goal.returns-clause-later
+returns-clause-later g c =
+    let grows = λ (x : List ℕ). (c.announce_object.ensures.used x).1 in (
+      refl,
+      refl,
+      c.announce_object.ensures.stays,
+      grows,
+      (λ p under known. remembers_later p _ _ c.args.self.now.objects.now grows known),
+      (λ r object known. known),
+      (λ absent. absent_later _ _ c.args.self.now.manifest c.args.self.now.objects.now grows absent),
+      (λ r given. given_later _ _ c.args.self.now.manifest c.args.self.now.objects.now c.args.self.now.objects.now grows (λ s o known. known) r given),
+      (λ p under known recalled. all_recalled_later p _ _ c.args.self.now.memo.now.remembered.items grows recalled),
+      (λ r is. is),
+      (λ given r is. given_later _ _ c.args.self.now.manifest c.args.self.now.objects.now c.args.self.now.objects.now grows (λ s o known. known) r (given r is)),
+    )
+
+pub returns-clause-walked : goal.returns-clause-walked
+returns-clause-walked g c = given_same (top_among c.args.self.now.manifest.tops) HaveForm _ _ _ _ _ c.announce_object.ensures.used
