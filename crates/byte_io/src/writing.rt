@@ -7,10 +7,10 @@ ghost use Rattle.byte_io.specs.Written.{AppendsFront};
 use crate::not_written::NotWritten;
 use std::io::Write;
 
-/// Writes the text, in as few calls as the writer takes. It isn't flushed.
+/// Writes the whole text, in as few calls as the writer needs. It isn't flushed.
 ///
-/// Refused where a call fails or takes nothing; a beginning of the text is written then. (A loop of our own, since the
-/// contract of std's `write_all` doesn't say what is written where it fails.)
+/// Fails where a call fails or takes no byte; some first part of the text, possibly none, is written then. (std's
+/// `write_all` isn't used, since its contract doesn't say what is written where it fails.)
 pub fn write_whole<W: Write>(writer: &mut W, text: &[u8]) -> Result<(), NotWritten>
     // The whole text is written.
     ensures whole { OnOk result (Appends (W.contents writer.old) (W.contents writer.new) text.now) }

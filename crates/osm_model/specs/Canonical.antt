@@ -1,11 +1,10 @@
--- What makes the spelling of a number the canonical one, apart from how it is written: nothing stands
--- in it that it could do without.
+-- What makes the spelling of a number the canonical one: it has no character that could be left out.
 -- Source: this project.
 use Rattle.std.specs.Prelude.{◌≡◌, ◌≢◌, ℕ, ℤ, pos, false, List, [], ◌∷◌, ◌++◌}
 use Rattle.osm_model.specs.Bytes.{digit_zero}
 use Rattle.osm_model.specs.Degrees.{IsDegrees, decimals}
 
--- a zero isn't the first digit, but where it is the only one
+-- a zero isn't the first digit, unless it is the only one
 abbrev pub HasNoLeadingZero : List ℕ → Type 0
 HasNoLeadingZero digits = (rest : List ℕ) → digits ≡ digit_zero ∷ rest → rest ≡ []
 

@@ -54,7 +54,7 @@ pub(crate) fn members_of(body: &Body) -> &[Member]
     }
 }
 
-/// Brings to a proof that the numbers of a body are in their ranges. It does nothing else.
+/// Does nothing at run time: its contract tells the prover that the numbers of a body are in their ranges.
 pub(crate) fn note_body(body: &Body)
     ensures { BodyInRange body.now }
 {

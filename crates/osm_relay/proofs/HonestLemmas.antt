@@ -1,7 +1,7 @@
 -- What a client is told where the last mirror that was asked is an honest one.
 use Rattle.std.proofs.Common.{◌≡◌, ◌∙◌, ◌++◌, ℕ, List, [], ap, append-nil, false, inl, inr, refl, subst, sym, true}
 use Rattle.std.specs.Prelude.{Bool, Option, Some, None}
-use Rattle.ql_syntax.proofs.FormatLemmas.{one_format}
+use Rattle.ql_syntax.proofs.shared.FormatLemmas.{one_format}
 use Rattle.osm_check.specs.Telling.{IsProvedIn, IsTold}
 use Rattle.osm_check.specs.declared.told.Told.TheVariants.{No}
 use Rattle.osm_check.specs.declared.why.Why.{Why}

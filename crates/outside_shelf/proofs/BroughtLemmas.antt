@@ -8,7 +8,7 @@ use Rattle.tree_node.specs.Digests.{digest}
 use Rattle.tree_node.specs.Keys.{StandsIn, digest_eq}
 use Rattle.tree_node.specs.Shelves.{HasNone}
 use Rattle.tree_node.specs.declared.digest.Digest.{Digest}
-use Rattle.tree_node.proofs.MapLemmas.{not_missing}
+use Rattle.tree_node.proofs.shared.MapLemmas.{not_missing}
 use Rattle.outside_shelf.specs.Brought.{HasRoomFor, brought_at, brought_len}
 use Rattle.outside_shelf.specs.declared.bound.Bound.{Bound}
 use Rattle.outside_shelf.specs.declared.brought.Brought.{Brought}

@@ -38,7 +38,6 @@ pub mod SettingSpellings
 pub mod StatementSpellings
 pub mod StatementReadings
 pub mod QuerySpellings
-pub mod FormatLemmas
 pub mod PlaceLemmas
 pub mod PlaceRules
 pub mod GrammarRows

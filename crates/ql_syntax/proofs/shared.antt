@@ -1,3 +1,4 @@
 -- Lemmas for the crates above.
 pub mod StatementTrees
 pub mod QueryLaws
+pub mod FormatLemmas

@@ -51,8 +51,8 @@ impl<'q> NamedSets<'q> {
         &self.nothing
     }
 
-    /// The set with this name, as one of its owners: it stays as it is whatever is written later. Nothing is copied.
-    /// Refused where memory runs out, which only the empty set of a name that was never written takes.
+    /// The set with this name, shared: it doesn't change when the name is given another set later, and nothing is copied.
+    /// Refused where memory runs out, which can only happen for a name that was never written: its empty set is allocated.
     pub fn shared(&self, name: &[u8]) -> Result<Rc<RefSet>, AllocError>
         ensures { IfOk result (λ refs. refs.value ≡ lists_of self.now.named.items name.now) }
     {

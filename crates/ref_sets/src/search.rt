@@ -9,11 +9,11 @@ ghost use Rattle.ref_sets.specs.internal.Seeking.{AreAfter, AreBefore, IsAround,
 use osm_model::Ref;
 use std::cmp::Ordering;
 
-/// Where a reference is in a list that rises, and whether it is there; where it isn't, near where it would be.
+/// Where a reference is in a rising list, and whether it is there. Where it isn't, the index is next to where it would be.
 ///
-/// The search goes out from a place in steps that double, so it takes the logarithm of how far off the reference is:
-/// references that rise are found in constant time each if all are there, and a few among many about as by a binary
-/// search each.
+/// The search starts at `at` and doubles its steps, so it takes time logarithmic in the distance to the reference. Looking
+/// up rising references, each from the index of the one before, takes constant time each where all are there, and about
+/// that of a binary search each where they are few among many.
 pub(crate) fn seek(refs: &[Ref], at: usize, name: Ref) -> (usize, bool)
     requires rising { IsStrictlySortedBy ref_cmp refs.now }
     requires within { at ≤ length refs.now }

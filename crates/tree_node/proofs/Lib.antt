@@ -6,7 +6,6 @@ pub mod FetchLemmas
 pub mod FrontLemmas
 pub mod HeldLemmas
 pub mod ItemFaults
-pub mod MapLemmas
 pub mod NodeFaults
 pub mod RecorderLemmas
 pub mod SkipLemmas

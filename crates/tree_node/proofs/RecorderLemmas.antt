@@ -29,7 +29,7 @@ use Rattle.tree_node.specs.declared.digest.Digest.{Digest}
 use Rattle.tree_node.specs.declared.given.Given.{Given}
 use Rattle.tree_node.specs.declared.part.Part.{Part}
 use Rattle.tree_node.proofs.BagLemmas.{element_at}
-use Rattle.tree_node.proofs.MapLemmas.{differ, eq_is}
+use Rattle.tree_node.proofs.shared.MapLemmas.{differ, eq_is}
 
 -- a list keeps its length
 length_same : {X Y : Type 0} (f : X → Y) (xs : List X) → length (map f xs) ≡ length xs

@@ -1,5 +1,6 @@
 -- Lemmas for the crates above.
 pub mod FieldLemmas
+pub mod MapLemmas
 pub mod NodeLaws
 pub mod OutcomeLaws
 pub mod PartOrder

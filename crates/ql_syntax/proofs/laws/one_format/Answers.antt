@@ -1,4 +1,4 @@
-use Rattle.ql_syntax.proofs.FormatLemmas.{one_format}
+use Rattle.ql_syntax.proofs.shared.FormatLemmas.{one_format}
 use Rattle.ql_syntax.proofs.laws.one_format.Goals as goal
 
 pub returns : goal.returns

@@ -1,5 +1,5 @@
 use Rattle.ql_syntax.specs.Formats.{Asked, Unread}
-use Rattle.ql_syntax.proofs.FormatLemmas.{asked_at_front}
+use Rattle.ql_syntax.proofs.shared.FormatLemmas.{asked_at_front}
 use Rattle.ql_syntax.proofs.RuleLemmas.{read_of, stops_of}
 use Rattle.ql_syntax.proofs.settings.asked_format.Goals as goal
 use Rattle.std.proofs.Common.{refl}

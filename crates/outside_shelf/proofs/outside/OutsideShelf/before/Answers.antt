@@ -1,6 +1,6 @@
 use Rattle.std.proofs.Common.{◌≡◌, Some, sym, ap}
 use Rattle.std.specs.Option.{option_map}
-use Rattle.tree_node.proofs.MapLemmas.{stands}
+use Rattle.tree_node.proofs.shared.MapLemmas.{stands}
 use Rattle.outside_shelf.specs.Brought.{brought_at}
 use Rattle.outside_shelf.specs.declared.brought.Brought.{Brought}
 use Rattle.outside_shelf.proofs.outside.OutsideShelf.before.Goals as goal

@@ -1,7 +1,7 @@
 use Rattle.std.proofs.Common.{◌≡◌, List, ℕ, Some, inl, refl, sym}
 use Rattle.tree_node.specs.Digests.{digest}
 use Rattle.tree_node.specs.declared.digest.Digest.{Digest}
-use Rattle.tree_node.proofs.MapLemmas.{each_inserted, put_grows, update_sets}
+use Rattle.tree_node.proofs.shared.MapLemmas.{each_inserted, put_grows, update_sets}
 use Rattle.outside_shelf.specs.Brought.{brought_at}
 use Rattle.outside_shelf.specs.declared.brought.Brought.{Brought}
 use Rattle.outside_shelf.proofs.BroughtLemmas.{none_there, room_kept}

@@ -4,7 +4,7 @@ use Rattle.std.specs.Option.{option_map}
 use Rattle.tree_node.specs.Digests.{digest}
 use Rattle.tree_node.specs.Keys.{StandsIn, lent_at, owned_at}
 use Rattle.tree_node.specs.declared.given.Given.{Given}
-use Rattle.tree_node.proofs.MapLemmas.{given_used}
+use Rattle.tree_node.proofs.shared.MapLemmas.{given_used}
 use Rattle.tree_node.proofs.recorder.Recorder.read_node.Goals as goal
 
 -- what holds of a value, where there is one, and says more

@@ -2,7 +2,7 @@ use Rattle.std.proofs.Common.{◌≡◌, List, ℕ, Some, sym}
 use Rattle.tree_node.specs.Keys.{lent_at, owned_at}
 use Rattle.tree_node.specs.declared.digest.Digest.{Digest}
 use Rattle.tree_node.specs.declared.given.Given.{Given}
-use Rattle.tree_node.proofs.MapLemmas.{update_sets, put_grows, was_given, each_inserted}
+use Rattle.tree_node.proofs.shared.MapLemmas.{update_sets, put_grows, was_given, each_inserted}
 use Rattle.tree_node.proofs.recorder.Recorder.remember.Goals as goal
 
 pub invariant_of-self : goal.invariant_of-self

@@ -2,7 +2,7 @@ use Rattle.std.proofs.Common.{sym, ap}
 use Rattle.std.specs.Option.{option_map}
 use Rattle.tree_node.specs.Keys.{lent_at, owned_at}
 use Rattle.tree_node.specs.declared.given.Given.{Given}
-use Rattle.tree_node.proofs.MapLemmas.{given_used}
+use Rattle.tree_node.proofs.shared.MapLemmas.{given_used}
 use Rattle.tree_node.proofs.recorder.Recorder.used_node.Goals as goal
 
 pub returns-in-Some : goal.returns-in-Some

@@ -4,7 +4,7 @@ use Rattle.tree_node.specs.Keys.{owned_at}
 use Rattle.tree_node.specs.Shelves.{HasNone}
 use Rattle.tree_node.specs.Stocks.{HasNode}
 use Rattle.tree_node.specs.declared.stock.Stock.{Stock}
-use Rattle.tree_node.proofs.MapLemmas.{not_missing}
+use Rattle.tree_node.proofs.shared.MapLemmas.{not_missing}
 use Rattle.tree_node.proofs.recorder.RecorderShelf.fetch.Goals as goal
 
 pub returns-in-Ok-clause-none : goal.returns-in-Ok-clause-none

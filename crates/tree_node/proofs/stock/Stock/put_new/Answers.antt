@@ -5,7 +5,7 @@ use Rattle.std.proofs.lemmas.Slice.Eq.{bytes_eq-Decides}
 use Rattle.tree_node.specs.Digests.{digest}
 use Rattle.tree_node.specs.Keys.{owned_at}
 use Rattle.tree_node.specs.declared.digest.Digest.{Digest}
-use Rattle.tree_node.proofs.MapLemmas.{update_sets, put_grows, each_inserted, stands, differ, copied_none, none_held}
+use Rattle.tree_node.proofs.shared.MapLemmas.{update_sets, put_grows, each_inserted, stands, differ, copied_none, none_held}
 use Rattle.tree_node.specs.internal.RecorderLaws.{stands_once}
 use Rattle.tree_node.proofs.stock.Stock.put_new.Goals as goal
 

@@ -3,7 +3,7 @@ use Rattle.std.specs.Global.{Vec}
 use Rattle.tree_node.specs.Digests.{digest}
 use Rattle.tree_node.specs.Keys.{owned_at}
 use Rattle.tree_node.specs.declared.digest.Digest.{Digest}
-use Rattle.tree_node.proofs.MapLemmas.{each_after, take_loses, update_sets}
+use Rattle.tree_node.proofs.shared.MapLemmas.{each_after, take_loses, update_sets}
 use Rattle.tree_node.proofs.stock.Stock.remove.Goals as goal
 
 pub invariant_of-self : goal.invariant_of-self
