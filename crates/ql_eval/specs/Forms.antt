@@ -3,7 +3,7 @@
 -- Source: this project's trees, docs/FORMATS.md.
 use Rattle.std.specs.Int.{w64}
 use Rattle.std.specs.List.{Contains}
-use Rattle.std.specs.Prelude.{◌≡◌, ℕ, List, [], ◌++◌, FitsSigned}
+use Rattle.std.specs.Prelude.{◌≡◌, ℕ, List, [], ◌++◌, FitsSigned, ⊤}
 use Rattle.opl_codec.specs.LineChanges.{Spells}
 use Rattle.opl_codec.specs.declared.change.Change.TheVariants.{Put}
 use Rattle.osm_model.specs.Elements.{Element, reference}
@@ -13,6 +13,8 @@ use Rattle.osm_model.specs.declared.reference.Ref.{Ref}
 use Rattle.tree_node.specs.Nodes.{Binding}
 use Rattle.tree_node.specs.declared.tree.Tree.{Tree}
 use Rattle.tree_node.specs.declared.tree.Tree.TheVariants.{Objects, Tags, Cells, Backs}
+use Rattle.tree_walk.specs.Given.{Answer, SoMany, These}
+use Rattle.tree_walk.specs.WalksGiven.{Walk}
 use Rattle.osm_keys.specs.Keys.{IsCell, IsTagText, back_key, cell_bytes, cell_value, id_bytes, ref_key, tag_key}
 
 -- the entry of the object tree puts this object under its reference; the line may have any spelling
@@ -45,3 +47,12 @@ HasForm tree b = (r : Ref) × FitsSigned w64 r.id × Names tree b r
 -- so are all of these entries
 abbrev pub HaveForm : Tree → List Binding → Type 0
 HaveForm tree found = (b : Binding) → Contains found b → HasForm tree b
+
+-- so are all entries of this answer; of a number nothing is asked
+abbrev pub AnswersForms : Tree → Answer → Type 0
+AnswersForms tree (These found) = HaveForm tree found
+AnswersForms tree (SoMany number) = ⊤
+
+-- so are all entries that the walk gave
+abbrev pub IsFormed : Walk → Type 0
+IsFormed walk = AnswersForms walk.tree walk.answer

@@ -19,7 +19,7 @@ ghost use Rattle.ql_eval.specs.internal.Giving.{AllGiven};
 ghost use Rattle.ql_eval.specs.internal.TrueFaults.{IsTrueUnder};
 ghost use Rattle.ql_eval.specs.Questions.{NeededBy};
 ghost use Rattle.ql_eval.specs.internal.Boxes.{IsCellsAsk, IsFoundIn};
-ghost use Rattle.ql_eval.specs.Forms.{HasForm, HaveForm};
+ghost use Rattle.ql_eval.specs.Forms.{HasForm, HaveForm, IsFormed};
 ghost use Rattle.ql_eval.specs.internal.Entries.{AreMisread, IsMisread, IsSaid, PlacesIn, SaysIn};
 ghost use Rattle.tree_walk.specs.Uses.{nodes_around};
 
@@ -44,7 +44,7 @@ pub(crate) fn find_in_box<'a, S: Shelf<'a>>(
 ) -> Result<RefSet, EvalFault>
     ensures stays { Stays S.is_fixed (S.holds shelf.old) (S.holds shelf.new) }
     ensures grows { (bytes : List ℕ) → S.used shelf.old bytes → S.used shelf.new bytes }
-    ensures walked { OnOk result (HasGiven (top_among manifest.now.tops) HaveForm
+    ensures walked { OnOk result (HasGiven (top_among manifest.now.tops) IsFormed
         (nodes_around S.holds S.used shelf.old shelf.new)
         tally.old.calls tally.new.calls tally.old.fetches tally.new.fetches) }
     ensures told { IfErr result (IsTrueUnder (S.holds shelf.new) (S.used shelf.new) manifest.now) }
@@ -77,7 +77,7 @@ fn add_range<'a, S: Shelf<'a>>(
     requires { AllGiven (IsNamedIn (S.used shelf.old) manifest.now) names.old.items }
     ensures stays { Stays S.is_fixed (S.holds shelf.old) (S.holds shelf.new) }
     ensures grows { (bytes : List ℕ) → S.used shelf.old bytes → S.used shelf.new bytes }
-    ensures walked { OnOk result (HasGiven (top_among manifest.now.tops) HaveForm
+    ensures walked { OnOk result (HasGiven (top_among manifest.now.tops) IsFormed
         (nodes_around S.holds S.used shelf.old shelf.new)
         tally.old.calls tally.new.calls tally.old.fetches tally.new.fetches) }
     ensures told { IfErr result (IsTrueUnder (S.holds shelf.new) (S.used shelf.new) manifest.now) }

@@ -13,7 +13,7 @@ ghost use Rattle.osm_forms.specs.Forms.{form_text};
 ghost use Rattle.ref_sets.specs.NamedSets.{nothing_named};
 ghost use Rattle.ql_eval.specs.Asks.{AskedByAll, IsNeeded};
 ghost use Rattle.ql_eval.specs.Faults.{cause_of_evaluation};
-ghost use Rattle.ql_eval.specs.Forms.{HaveForm};
+ghost use Rattle.ql_eval.specs.Forms.{IsFormed};
 ghost use Rattle.ql_eval.specs.Openings.{HasMalformed, IsUnder, nodes_after};
 ghost use Rattle.ql_eval.specs.Questions.{NeededBy};
 ghost use Rattle.ql_eval.specs.TrueFaults.{HoldsUnder, IsTrueFault};
@@ -89,7 +89,7 @@ pub fn evaluate<'a, S: Shelf<'a>, T: Sink>(
     // These walks are the report's: each gave what its nodes say, from the tops that the manifest names on, and all entries
     // that they gave are of their trees' forms.
     ensures walks { IfOk result (λ report. HoldsUnder (S.holds shelf.new) root.now.0 (λ found.
-        HasGiven (top_among found.tops) HaveForm (nodes_after found S.holds S.used shelf.old shelf.new)
+        HasGiven (top_among found.tops) IsFormed (nodes_after found S.holds S.used shelf.old shelf.new)
         0 report.ranges 0 report.fetched)) }
     // Under the root of a publication: its answer, by just the needed nodes.
     ensures answer { (p : Publication) → IsPublication p → root.now.0 ≡ root_of p
@@ -146,7 +146,7 @@ pub fn evaluate_in<'a, S: Shelf<'a>, T: Sink>(
     // These walks are the report's: each gave what its nodes say, from the tops that the manifest names on, and all entries
     // that they gave are of their trees' forms.
     ensures walks { IfOk result (λ report. HoldsUnder (S.holds shelf.new) root.now.0 (λ found.
-        HasGiven (top_among found.tops) HaveForm (nodes_after found S.holds S.used shelf.old shelf.new)
+        HasGiven (top_among found.tops) IsFormed (nodes_after found S.holds S.used shelf.old shelf.new)
         0 report.ranges 0 report.fetched)) }
     // Under the root of a publication: its answer, by just the needed nodes.
     ensures answer { (p : Publication) → IsPublication p → root.now.0 ≡ root_of p
@@ -213,7 +213,7 @@ pub fn evaluate_within<'a, S: Shelf<'a>, T: Sink>(
     // These walks are the report's: each gave what its nodes say, from the tops that the manifest names on, and all entries
     // that they gave are of their trees' forms.
     ensures walks { IfOk result (λ report. HoldsUnder (S.holds shelf.new) root.now.0 (λ found.
-        HasGiven (top_among found.tops) HaveForm (nodes_after found S.holds S.used shelf.old shelf.new)
+        HasGiven (top_among found.tops) IsFormed (nodes_after found S.holds S.used shelf.old shelf.new)
         0 report.ranges 0 report.fetched)) }
     // Under the root of a publication: its answer, by just the needed nodes.
     ensures answer { (p : Publication) → IsPublication p → root.now.0 ≡ root_of p
@@ -267,7 +267,7 @@ fn run_within<'a, S: Shelf<'a>, T: Sink>(
     // As each shelf: no two held nodes have one digest, and what was used is held.
     ensures unlike { IsClashFree (S.holds shelf.new) }
     ensures held { (bytes : List ℕ) → S.used shelf.new bytes → S.holds shelf.new bytes }
-    ensures walked { IfOk result (λ report. HasGiven (top_among manifest.tops) HaveForm
+    ensures walked { IfOk result (λ report. HasGiven (top_among manifest.tops) IsFormed
         (nodes_around S.holds S.used shelf.old shelf.new) 0 report.ranges 0 report.fetched) }
     ensures told { IfErr result (λ fault. (fault ≡ EvalFault.Work)
         ⊎ IsTrueUnder (S.holds shelf.new) (S.used shelf.new) manifest fault) }
@@ -321,7 +321,7 @@ fn run_over<'a, S: Shelf<'a>, T: Sink>(
     // As each shelf: no two held nodes have one digest, and what was used is held.
     ensures unlike { IsClashFree (S.holds shelf.new) }
     ensures held { (bytes : List ℕ) → S.used shelf.new bytes → S.holds shelf.new bytes }
-    ensures walked { OnOk result (HasGiven (top_among manifest.tops) HaveForm
+    ensures walked { OnOk result (HasGiven (top_among manifest.tops) IsFormed
         (nodes_around S.holds S.used shelf.old shelf.new) 0 tally.new.calls 0 tally.new.fetches) }
     ensures told { IfErr result (IsTrueUnder (S.holds shelf.new) (S.used shelf.new) manifest) }
     ensures kept { T.kept sink.new ≡ T.kept sink.old }

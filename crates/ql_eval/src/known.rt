@@ -12,7 +12,7 @@ ghost use Rattle.tree_walk.specs.WalksGiven.{HasGiven};
 ghost use Rattle.osm_keys.specs.Manifests.{top_among};
 ghost use Rattle.osm_keys.specs.Publications.{IsPublication, Publication};
 ghost use Rattle.ql_eval.specs.Faults.{cause_of_evaluation};
-ghost use Rattle.ql_eval.specs.Forms.{HaveForm};
+ghost use Rattle.ql_eval.specs.Forms.{HaveForm, IsFormed};
 ghost use Rattle.ql_eval.specs.Openings.{IsUnder};
 ghost use Rattle.ql_eval.specs.Questions.{NeedsAsk, object_ask};
 ghost use Rattle.ql_eval.specs.TrueFaults.{IsAbsent};
@@ -50,7 +50,7 @@ pub(crate) fn look_up<'a, S: Shelf<'a>>(
 ) -> Result<(), EvalFault>
     ensures stays { Stays S.is_fixed (S.holds shelf.old) (S.holds shelf.new) }
     ensures grows { (bytes : List ℕ) → S.used shelf.old bytes → S.used shelf.new bytes }
-    ensures walked { OnOk result (HasGiven (top_among manifest.now.tops) HaveForm
+    ensures walked { OnOk result (HasGiven (top_among manifest.now.tops) IsFormed
         (nodes_around S.holds S.used shelf.old shelf.new)
         tally.old.calls tally.new.calls tally.old.fetches tally.new.fetches) }
     ensures told { IfErr result (IsTrueUnder (S.holds shelf.new) (S.used shelf.new) manifest.now) }
@@ -87,7 +87,7 @@ fn find_object<'a, S: Shelf<'a>>(
 ) -> Result<Option<Object>, EvalFault>
     ensures stays { Stays S.is_fixed (S.holds shelf.old) (S.holds shelf.new) }
     ensures grows { (bytes : List ℕ) → S.used shelf.old bytes → S.used shelf.new bytes }
-    ensures walked { OnOk result (HasGiven (top_among manifest.now.tops) HaveForm
+    ensures walked { OnOk result (HasGiven (top_among manifest.now.tops) IsFormed
         (nodes_around S.holds S.used shelf.old shelf.new)
         tally.old.calls tally.new.calls tally.old.fetches tally.new.fetches) }
     ensures told { IfErr result (IsTrueUnder (S.holds shelf.new) (S.used shelf.new) manifest.now) }

@@ -4,7 +4,7 @@ ghost use Rattle.std.specs.Prelude.{◌≡◌, ℕ, List};
 ghost use Rattle.tree_node.specs.Shelves.{Stays};
 ghost use Rattle.tree_walk.specs.WalksGiven.{HasGiven};
 ghost use Rattle.osm_keys.specs.Manifests.{top_among};
-ghost use Rattle.ql_eval.specs.Forms.{HaveForm};
+ghost use Rattle.ql_eval.specs.Forms.{IsFormed};
 ghost use Rattle.osm_keys.specs.Publications.{Publication};
 ghost use Rattle.ql_eval.specs.Openings.{IsUnder};
 ghost use Rattle.ql_eval.specs.internal.Objects.{Remembers};
@@ -50,7 +50,7 @@ impl<'s, 'a, S: Shelf<'a>> Source for ShelfSource<'s, 'a, S> {
     ghost use Rattle.tree_node.specs.Shelves.{Stays};
     ghost use Rattle.tree_walk.specs.WalksGiven.{HasGiven};
     ghost use Rattle.osm_keys.specs.Manifests.{top_among};
-    ghost use Rattle.ql_eval.specs.Forms.{HaveForm};
+    ghost use Rattle.ql_eval.specs.Forms.{IsFormed};
     ghost use Rattle.osm_keys.specs.Publications.{Publication};
     ghost use Rattle.ql_eval.specs.Openings.{IsUnder};
     ghost use Rattle.ql_eval.specs.internal.Objects.{AreAbsent, IsGivenOrThere, IsToldAbsent, Remembers};
@@ -103,7 +103,7 @@ impl<'s, 'a, S: Shelf<'a>> Source for ShelfSource<'s, 'a, S> {
         → AreGiven (IsGivenOrThere (S.used n.shelf.now) n.manifest n.objects.now)
         n.memo.now.remembered.items) };
 
-    ghost walked = { λ o n. HasGiven (top_among n.manifest.tops) HaveForm (record { held = S.holds n.shelf.now; before = S.used o.shelf.now; after = S.used n.shelf.now })
+    ghost walked = { λ o n. HasGiven (top_among n.manifest.tops) IsFormed (record { held = S.holds n.shelf.now; before = S.used o.shelf.now; after = S.used n.shelf.now })
         o.tally.calls n.tally.calls o.tally.fetches n.tally.fetches };
 
     ghost itself = { λ o. (refl, refl, (λ x. ((λ _ has. has), (λ has. has))), (λ x has. has), (λ p under known. known), (λ r object known. known), (λ absent. absent), (λ r given. given), (λ p under known recalled. recalled), (λ r is. is), (λ given. given)) };
@@ -144,10 +144,10 @@ impl<'s, 'a, S: Shelf<'a>> Source for ShelfSource<'s, 'a, S> {
 
     ghost recalled_true = { λ o p how set refs recalls is under there. under.2 is how set refs recalls there };
 
-    ghost no_walk = { λ o. given_none (top_among o.manifest.tops) HaveForm (S.holds o.shelf.now) (S.used o.shelf.now) o.tally.calls o.tally.fetches };
+    ghost no_walk = { λ o. given_none (top_among o.manifest.tops) IsFormed (S.holds o.shelf.now) (S.used o.shelf.now) o.tally.calls o.tally.fetches };
 
-    ghost more_walks = { λ o n m first second one two. given_then (top_among m.manifest.tops) HaveForm _ _ _ _ _ _ _ _ _ _ _ second.2
-        (subst (λ (found : Manifest). HasGiven (top_among found.tops) HaveForm
+    ghost more_walks = { λ o n m first second one two. given_then (top_among m.manifest.tops) IsFormed _ _ _ _ _ _ _ _ _ _ _ second.2
+        (subst (λ (found : Manifest). HasGiven (top_among found.tops) IsFormed
         (record { held = S.holds n.shelf.now; before = S.used o.shelf.now; after = S.used n.shelf.now }) o.tally.calls n.tally.calls o.tally.fetches n.tally.fetches) second.1 one) two };
 
     fn announce(&mut self, name: Ref) {

@@ -1,19 +1,17 @@
 -- Several walks over one shelf, one after the other, and what each gave.
-use Rattle.std.proofs.Common.{Bool, ◌≡◌, ◌≤◌, ℕ, List, [], ◌∷◌, ◌++◌, length, map, ◌⊎◌, inl, inr, Result, Ok, Err, refl, sym, ap, subst, ◌∙◌, length-append}
+use Rattle.std.proofs.Common.{Bool, ◌≡◌, ◌≤◌, ℕ, List, [], ◌∷◌, ◌++◌, length, map, ◌⊎◌, inl, inr, refl, sym, ap, subst, ◌∙◌, length-append}
 use Rattle.std.specs.List.{AllByRecursion}
-use Rattle.std.specs.Prelude.{IfOk, OnOk}
 use Rattle.std.proofs.lemmas.Grind.{flat_map-append}
 use Rattle.std.proofs.lemmas.List.{append-nil, length-map}
 use Rattle.std.proofs.lemmas.List.Folds.{flat_map-map}
-use Rattle.tree_node.specs.Nodes.{Binding}
 use Rattle.tree_node.specs.Shelves.{GrownBy, SameNodes, Stays}
 use Rattle.tree_node.specs.declared.tree.Tree.{Tree}
 use Rattle.tree_node.proofs.shared.OutcomeLaws.{Nodes, uses}
 use Rattle.tree_walk.specs.Fetches.{AreDifferent, HasFetched, IsNodeText, counted_up}
-use Rattle.tree_walk.specs.Given.{Answer, IsWalk, SoMany, These}
+use Rattle.tree_walk.specs.Given.{Answer, IsWalk}
 use Rattle.tree_walk.specs.Ranges.{Range}
 use Rattle.tree_walk.specs.Walked.{HasWalked}
-use Rattle.tree_walk.specs.WalksGiven.{HasGiven, IsFine, IsMade, Walk, nodes_of}
+use Rattle.tree_walk.specs.WalksGiven.{HasGiven, IsMade, Walk, nodes_of}
 use Rattle.tree_walk.proofs.FetchLemmas.{all_append, all_weaker, counted_then, fetched_none, fetched_then}
 use Rattle.tree_walk.proofs.shared.GivenLaws.{gives_some}
 
@@ -36,7 +34,7 @@ pub walk_before : (held old mid new : Nodes) (from to : ℕ) (tree : Tree) (top 
 walk_before held old mid new from to tree top range answer same walk =
     record { nodes = walk.nodes; fetched = fetched_before held old mid new from to walk.nodes same walk.fetched; differ = walk.differ; texts = walk.texts; gives = walk.gives }
 
-module _ (top_of : Tree → List ℕ) (Fine : Tree → List Binding → Type 0) where
+module _ (top_of : Tree → List ℕ) (Fine : Walk → Type 0) where
   -- no walk was made, and what was used is the same
   pub given_same : (held used later : Nodes) (calls from : ℕ) → SameNodes used later → HasGiven top_of Fine (uses held used later) calls calls from from
   given_same held used later calls from same = record { walks = []; fetched = fetched_none held used later from same; called = refl; each = tt }
@@ -47,19 +45,14 @@ module _ (top_of : Tree → List ℕ) (Fine : Tree → List Binding → Type 0) 
 
   -- one walk was, and ended well
   pub given_one : (held old new : Nodes) (calls later from to : ℕ) (tree : Tree) (range : Range) (answer : Answer) → later ≡ counted_up calls 1
-      → IsWalk (uses held old new) from to tree (top_of tree) range answer → IsFine (Fine tree) answer → HasGiven top_of Fine (uses held old new) calls later from to
+      → IsWalk (uses held old new) from to tree (top_of tree) range answer → ((nodes : List (List ℕ)) → Fine (record { tree = tree; range = range; nodes = nodes; answer = answer }))
+      → HasGiven top_of Fine (uses held old new) calls later from to
   given_one held old new calls later from to tree range answer called walk fine = record {
     walks = record { tree = tree; range = range; nodes = walk.nodes; answer = answer } ∷ [];
     fetched = subst (λ (ns : List (List ℕ)). HasFetched (uses held old new) from to ns) (sym (append-nil walk.nodes)) walk.fetched;
     called = called;
-    each = (record { differ = walk.differ; texts = walk.texts; gives = walk.gives; fine = fine }, tt);
+    each = (record { differ = walk.differ; texts = walk.texts; gives = walk.gives; fine = fine walk.nodes }, tt);
   }
-
-  -- the same of a call that perhaps was refused
-  pub given_call : {A F : Type 0} (result : Result A F) (answer_of : A → Answer) (held old new : Nodes) (calls later from to : ℕ) (tree : Tree) (range : Range) → later ≡ counted_up calls 1
-      → IfOk result (λ value. IsWalk (uses held old new) from to tree (top_of tree) range (answer_of value)) → IfOk result (λ value. IsFine (Fine tree) (answer_of value)) → OnOk result (HasGiven top_of Fine (uses held old new) calls later from to)
-  given_call (Ok value) answer_of held old new calls later from to tree range called walk fine = given_one held old new calls later from to tree range (answer_of value) called walk fine
-  given_call (Err fault) answer_of held old new calls later from to tree range called walk fine = tt
 
   -- some walks were made, and then others
   pub given_then : {fixed : Bool} (held after old mid new : Nodes) (calls via later from at to : ℕ) → Stays fixed held after
@@ -107,19 +100,14 @@ module _ (top_of : Tree → List ℕ) (Fine : Tree → List Binding → Type 0) 
     some = some_each given.walks given.each;
   }
 
--- ---- what is asked of entries
+-- ---- what is asked of walks
 
-fine_weaker : (Fine More : List Binding → Type 0) (answer : Answer) → ((found : List Binding) → Fine found → More found) → IsFine Fine answer → IsFine More answer
-fine_weaker Fine More (These found) so is = so found is
-fine_weaker Fine More (SoMany number) so is = tt
-
--- Entries of which more is known are fine where less is asked.
-pub given_weaker : (top_of : Tree → List ℕ) (Fine More : Tree → List Binding → Type 0) (held old new : Nodes) (calls later from to : ℕ) → ((tree : Tree) (found : List Binding) → Fine tree found → More tree found)
+-- Walks of which more is known are fine where less is asked.
+pub given_weaker : (top_of : Tree → List ℕ) (Fine More : Walk → Type 0) (held old new : Nodes) (calls later from to : ℕ) → ((walk : Walk) → Fine walk → More walk)
     → HasGiven top_of Fine (uses held old new) calls later from to → HasGiven top_of More (uses held old new) calls later from to
 given_weaker top_of Fine More held old new calls later from to so given = record {
   walks = given.walks;
   fetched = given.fetched;
   called = given.called;
-  each = all_weaker (IsMade top_of Fine) (IsMade top_of More) given.walks
-      (λ walk made. record { differ = made.differ; texts = made.texts; gives = made.gives; fine = fine_weaker (Fine walk.tree) (More walk.tree) walk.answer (so walk.tree) made.fine }) given.each;
+  each = all_weaker (IsMade top_of Fine) (IsMade top_of More) given.walks (λ walk made. record { differ = made.differ; texts = made.texts; gives = made.gives; fine = so walk made.fine }) given.each;
 }

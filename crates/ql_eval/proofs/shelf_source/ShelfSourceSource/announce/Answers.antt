@@ -1,7 +1,7 @@
 use Rattle.std.proofs.Common.{List, ℕ, refl}
 use Rattle.tree_walk.proofs.shared.WalksGivenLaws.{given_same}
 use Rattle.osm_keys.specs.Manifests.{top_among}
-use Rattle.ql_eval.specs.Forms.{HaveForm}
+use Rattle.ql_eval.specs.Forms.{IsFormed}
 use Rattle.ql_eval.proofs.GivenLemmas.{given_later}
 use Rattle.ql_eval.proofs.KnownLemmas.{absent_later, remembers_later}
 use Rattle.ql_eval.proofs.RememberLemmas.{all_recalled_later}
@@ -24,4 +24,4 @@ returns-clause-later g c =
     )
 
 pub returns-clause-walked : goal.returns-clause-walked
-returns-clause-walked g c = given_same (top_among c.args.self.now.manifest.tops) HaveForm _ _ _ _ _ c.announce_object.ensures.used
+returns-clause-walked g c = given_same (top_among c.args.self.now.manifest.tops) IsFormed _ _ _ _ _ c.announce_object.ensures.used
