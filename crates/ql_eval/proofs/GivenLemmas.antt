@@ -67,7 +67,7 @@ module _ {gave : Ref → Type 0} where
 -- ---- entries
 
 -- more nodes that were used give the same entry
-entry_more : (used later : Nodes) (tree : ℕ) (top : List ℕ) (range : Range) (entry : Binding) → ((x : List ℕ) → used x → later x) → IsGivenEntry used tree top range entry → IsGivenEntry later tree top range entry
+pub entry_more : (used later : Nodes) (tree : ℕ) (top : List ℕ) (range : Range) (entry : Binding) → ((x : List ℕ) → used x → later x) → IsGivenEntry used tree top range entry → IsGivenEntry later tree top range entry
 entry_more used later tree top range entry grows is = record {
   wanted = is.wanted;
   entries = is.entries;

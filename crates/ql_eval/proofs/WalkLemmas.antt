@@ -1,6 +1,6 @@
 -- One walk of an evaluation: what was made of what it gave, and what its refusal tells.
 use Rattle.std.proofs.Common.{◌≡◌, inl, inr, ℕ, List, Option, Some, None, Result, Ok, Err, sym, subst}
-use Rattle.std.specs.Prelude.{IfErr, IfOk, OnOk}
+use Rattle.std.specs.Prelude.{IfErr, IfOk}
 use Rattle.osm_model.specs.Elements.{Element}
 use Rattle.osm_model.specs.declared.reference.Ref.{Ref}
 use Rattle.osm_keys.specs.Manifests.{top_among}
@@ -13,35 +13,17 @@ use Rattle.tree_node.specs.Shelves.{SameNodes}
 use Rattle.tree_node.specs.declared.tree.Tree.{Tree}
 use Rattle.tree_node.specs.declared.tree.Tree.TheVariants.{Objects}
 use Rattle.tree_node.proofs.shared.OutcomeLaws.{Nodes, uses}
-use Rattle.tree_walk.specs.Fetches.{counted_up}
-use Rattle.tree_walk.specs.Given.{Gives, IsWalk, SoMany, These}
+use Rattle.tree_walk.specs.Given.{Gives, IsWalk, These}
 use Rattle.tree_walk.specs.Ranges.{Range}
 use Rattle.tree_walk.specs.Reasons.{HasReason}
-use Rattle.tree_walk.specs.WalksGiven.{HasGiven}
 use Rattle.tree_walk.specs.declared.fault.WalkFault.{WalkFault}
 use Rattle.tree_walk.specs.declared.fault.WalkFault.TheVariants as walks
 use Rattle.tree_walk.proofs.shared.GivenLaws.{given_entry, gives_more}
-use Rattle.tree_walk.proofs.shared.WalksGivenLaws.{given_one}
 use Rattle.ql_eval.specs.Faults.{fault_of_walk}
-use Rattle.ql_eval.specs.Forms.{HaveForm, IsFormed}
 use Rattle.ql_eval.specs.TrueFaults.{IsAbsent}
 use Rattle.ql_eval.specs.internal.TrueFaults.{IsTrueUnder}
 use Rattle.ql_eval.specs.declared.fault.EvalFault.{EvalFault}
 use Rattle.ql_eval.specs.internal.Entries.{AreMisread, IsPutBy}
-
--- ---- walks that were made
-
--- entries that were all read
-pub walk_read : {B G : Type 0} (top_of : Tree → List ℕ) (held old new : Nodes) (calls later from to : ℕ) (tree : Tree) (range : Range) (found : List Binding) (result : Result B G) → later ≡ counted_up calls 1
-    → IsWalk (uses held old new) from to tree (top_of tree) range (These found) → OnOk result (HaveForm tree found) → OnOk result (HasGiven top_of IsFormed (uses held old new) calls later from to)
-walk_read top_of held old new calls later from to tree range found (Ok b) called walk formed = given_one top_of IsFormed held old new calls later from to tree range (These found) called walk (λ nodes. formed)
-walk_read top_of held old new calls later from to tree range found (Err f) called walk formed = tt
-
--- a number
-pub walk_counted : {G : Type 0} (top_of : Tree → List ℕ) (held old new : Nodes) (calls later from to : ℕ) (tree : Tree) (range : Range) (result : Result ℕ G) → later ≡ counted_up calls 1
-    → IfOk result (λ number. IsWalk (uses held old new) from to tree (top_of tree) range (SoMany number)) → OnOk result (HasGiven top_of IsFormed (uses held old new) calls later from to)
-walk_counted top_of held old new calls later from to tree range (Ok number) called walk = given_one top_of IsFormed held old new calls later from to tree range (SoMany number) called walk (λ nodes. tt)
-walk_counted top_of held old new calls later from to tree range (Err f) called walk = tt
 
 -- ---- what is told
 

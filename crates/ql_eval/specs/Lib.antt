@@ -6,6 +6,7 @@ pub mod Questions
 pub mod Forms
 pub mod TrueFaults
 pub mod Asks
+pub mod Absences
 pub mod Written
 pub mod Work
 pub mod internal

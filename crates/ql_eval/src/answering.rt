@@ -1,6 +1,7 @@
 //! The statements of a query, one after the other.
 
 ghost use Rattle.std.specs.Prelude.{◌≡◌, ℕ, IfErr, List, OnOk};
+ghost use Rattle.osm_model.specs.declared.reference.Ref.{Ref};
 ghost use Rattle.tree_node.specs.Outcomes.{Outcome};
 ghost use Rattle.osm_keys.specs.Publications.{IsPublication, Publication};
 ghost use Rattle.ql_syntax.specs.LawfulQueries.{IsQuery, IsTop};
@@ -8,6 +9,7 @@ ghost use Rattle.ql_syntax.specs.StatementViews.{statement_of, statements_of};
 ghost use Rattle.osm_forms.specs.Forms.{form_text};
 ghost use Rattle.ql_meaning.specs.Meanings.{After, Means_by, told_by};
 ghost use Rattle.ref_sets.specs.NamedSets.{nothing_named, lists_of};
+ghost use Rattle.ql_eval.specs.Absences.{HasIdOf, HaveIdOf};
 ghost use Rattle.ql_eval.specs.Asks.{AskedBy, AskedByAll};
 ghost use Rattle.ql_eval.specs.Faults.{cause_of_evaluation};
 ghost use Rattle.ql_eval.specs.Questions.{NeededBy};
@@ -39,6 +41,7 @@ pub(crate) fn answer_all<'q, W: Source, T: Sink>(
     meter: &mut Meter,
     sink: &mut T,
 ) -> Result<(), EvalFault>
+    requires { (r : Ref) → HaveIdOf (statements_of statements.now) r → W.may_be_absent source.old r }
     ensures later { W.later source.old source.new }
     ensures walked { OnOk result (W.walked source.old source.new) }
     ensures told { IfErr result (W.tells source.new) }
@@ -79,7 +82,8 @@ fn answer_statement<'q, W: Source, T: Sink>(
     meter: &mut Meter,
     sink: &mut T,
 ) -> Result<(), EvalFault>
-    requires { AllSetsGiven (W.gave source.old) (lists_of sets.old.named.items) }
+    requires asked { (r : Ref) → HasIdOf (statement_of statement.now) r → W.may_be_absent source.old r }
+    requires named { AllSetsGiven (W.gave source.old) (lists_of sets.old.named.items) }
     ensures later { W.later source.old source.new }
     ensures walked { OnOk result (W.walked source.old source.new) }
     ensures told { IfErr result (W.tells source.new) }

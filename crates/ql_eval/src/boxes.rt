@@ -11,7 +11,9 @@ ghost use Rattle.osm_keys.specs.Publications.{IsPublication, Publication};
 ghost use Rattle.ref_sets.specs.Sets.{IsSetOf};
 ghost use Rattle.ql_meaning.specs.Values.{IsRefOf};
 ghost use Rattle.ref_sets.specs.Adding.{Adds};
+ghost use Rattle.ql_eval.specs.Absences.{IsSound};
 ghost use Rattle.ql_eval.specs.Asks.{IsAskedInBox, IsInBox};
+ghost use Rattle.ql_eval.specs.internal.Objects.{NeverAbsent};
 ghost use Rattle.ql_eval.specs.Faults.{cause_of_evaluation};
 ghost use Rattle.ql_eval.specs.Openings.{IsUnder};
 ghost use Rattle.ql_eval.specs.TrueFaults.{IsNamedIn};
@@ -19,7 +21,7 @@ ghost use Rattle.ql_eval.specs.internal.Giving.{AllGiven};
 ghost use Rattle.ql_eval.specs.internal.TrueFaults.{IsTrueUnder};
 ghost use Rattle.ql_eval.specs.Questions.{NeededBy};
 ghost use Rattle.ql_eval.specs.internal.Boxes.{IsCellsAsk, IsFoundIn};
-ghost use Rattle.ql_eval.specs.Forms.{HasForm, HaveForm, IsFormed};
+ghost use Rattle.ql_eval.specs.Forms.{HasForm, HaveForm};
 ghost use Rattle.ql_eval.specs.internal.Entries.{AreMisread, IsMisread, IsSaid, PlacesIn, SaysIn};
 ghost use Rattle.tree_walk.specs.Uses.{nodes_around};
 
@@ -44,7 +46,7 @@ pub(crate) fn find_in_box<'a, S: Shelf<'a>>(
 ) -> Result<RefSet, EvalFault>
     ensures stays { Stays S.is_fixed (S.holds shelf.old) (S.holds shelf.new) }
     ensures grows { (bytes : List ℕ) → S.used shelf.old bytes → S.used shelf.new bytes }
-    ensures walked { OnOk result (HasGiven (top_among manifest.now.tops) IsFormed
+    ensures walked { OnOk result (HasGiven (top_among manifest.now.tops) (IsSound NeverAbsent)
         (nodes_around S.holds S.used shelf.old shelf.new)
         tally.old.calls tally.new.calls tally.old.fetches tally.new.fetches) }
     ensures told { IfErr result (IsTrueUnder (S.holds shelf.new) (S.used shelf.new) manifest.now) }
@@ -77,7 +79,7 @@ fn add_range<'a, S: Shelf<'a>>(
     requires { AllGiven (IsNamedIn (S.used shelf.old) manifest.now) names.old.items }
     ensures stays { Stays S.is_fixed (S.holds shelf.old) (S.holds shelf.new) }
     ensures grows { (bytes : List ℕ) → S.used shelf.old bytes → S.used shelf.new bytes }
-    ensures walked { OnOk result (HasGiven (top_among manifest.now.tops) IsFormed
+    ensures walked { OnOk result (HasGiven (top_among manifest.now.tops) (IsSound NeverAbsent)
         (nodes_around S.holds S.used shelf.old shelf.new)
         tally.old.calls tally.new.calls tally.old.fetches tally.new.fetches) }
     ensures told { IfErr result (IsTrueUnder (S.holds shelf.new) (S.used shelf.new) manifest.now) }

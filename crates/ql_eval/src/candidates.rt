@@ -1,6 +1,6 @@
 //! What the base of a query statement finds, asked of a source.
 
-ghost use Rattle.std.specs.Prelude.{◌≡◌, ◌↔◌, ◌<◌, ℕ, IfErr, IfOk, List, OnOk, length};
+ghost use Rattle.std.specs.Prelude.{◌≡◌, ◌↔◌, ◌<◌, ◌∷◌, ℕ, IfErr, IfOk, List, OnOk, [], length};
 ghost use Rattle.std.specs.List.{Contains};
 ghost use Rattle.std.specs.Option.{ForSome, option_map, option_to_list};
 ghost use Rattle.osm_model.specs.Limits.{HasNoNul};
@@ -16,6 +16,7 @@ ghost use Rattle.ref_sets.specs.Sets.{IsSetOf};
 ghost use Rattle.ref_sets.specs.NamedSets.{lists_of};
 ghost use Rattle.ql_meaning.specs.Values.{IsRefOf, IsSelected};
 ghost use Rattle.ql_plan.specs.Plans.{never, rank_of};
+ghost use Rattle.ql_eval.specs.Absences.{IsAskedById};
 ghost use Rattle.ql_eval.specs.Asks.{AskedByBase, AskedFor, IsAskedInBox, IsInBox, kind_picked};
 ghost use Rattle.ql_eval.specs.Faults.{cause_of_evaluation};
 ghost use Rattle.ql_eval.specs.Questions.{NeededBy, names_ask, object_ask};
@@ -51,6 +52,8 @@ pub(crate) fn find_candidates<W: Source>(
 ) -> Result<RefSet, EvalFault>
     requires base { ForSome (option_map (λ f. filter_of f.now) base)
         (λ base. rank_of base < never) }
+    requires asked { (r : Ref) → IsAskedById pick (option_to_list (option_map (λ f. filter_of f.now) base)) r
+        → W.may_be_absent source.old r }
     requires named { AllSetsGiven (W.gave source.old) (lists_of sets.now.named.items) }
     ensures later { W.later source.old source.new }
     ensures walked { OnOk result (W.walked source.old source.new) }
@@ -128,6 +131,8 @@ fn kept_by<W: Source>(
     sets: &NamedSets<'_>,
 ) -> Result<RefSet, EvalFault>
     requires base { rank_of (filter_of filter.now) < never }
+    requires asked { (r : Ref) → IsAskedById pick (filter_of filter.now ∷ []) r
+        → W.may_be_absent source.old r }
     requires named { AllSetsGiven (W.gave source.old) (lists_of sets.now.named.items) }
     ensures later { W.later source.old source.new }
     ensures walked { OnOk result (W.walked source.old source.new) }
@@ -174,6 +179,7 @@ fn with_ids<W: Source>(
     ids: &[i64],
     kind: Option<Kind>,
 ) -> Result<RefSet, EvalFault>
+    requires { (r : Ref) → IsOfIds kind ids.now r → W.may_be_absent source.old r }
     ensures later { W.later source.old source.new }
     ensures walked { OnOk result (W.walked source.old source.new) }
     ensures told { IfErr result (W.tells source.new) }

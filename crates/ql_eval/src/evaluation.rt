@@ -11,9 +11,9 @@ ghost use Rattle.ql_syntax.specs.LawfulQueries.{IsQuery};
 ghost use Rattle.ql_syntax.specs.StatementViews.{statements_of};
 ghost use Rattle.osm_forms.specs.Forms.{form_text};
 ghost use Rattle.ref_sets.specs.NamedSets.{nothing_named};
+ghost use Rattle.ql_eval.specs.Absences.{IsSound, MayBeAbsent};
 ghost use Rattle.ql_eval.specs.Asks.{AskedByAll, IsNeeded};
 ghost use Rattle.ql_eval.specs.Faults.{cause_of_evaluation};
-ghost use Rattle.ql_eval.specs.Forms.{IsFormed};
 ghost use Rattle.ql_eval.specs.Openings.{HasMalformed, IsUnder, nodes_after};
 ghost use Rattle.ql_eval.specs.Questions.{NeededBy};
 ghost use Rattle.ql_eval.specs.TrueFaults.{HoldsUnder, IsTrueFault};
@@ -87,9 +87,12 @@ pub fn evaluate<'a, S: Shelf<'a>, T: Sink>(
         HasWalked (nodes_after found S.holds S.used shelf.old shelf.new)
         0 report.ranges 0 report.fetched)) }
     // These walks are the report's: each gave what its nodes say, from the tops that the manifest names on, and all entries
-    // that they gave are of their trees' forms.
+    // that they gave are of their trees' forms. Where one of them looked for an object and found none, the object's id
+    // stands in the query, or an object lists it that an entry puts; so each object that another entry named is there.
     ensures walks { IfOk result (λ report. HoldsUnder (S.holds shelf.new) root.now.0 (λ found.
-        HasGiven (top_among found.tops) IsFormed (nodes_after found S.holds S.used shelf.old shelf.new)
+        HasGiven (top_among found.tops)
+        (IsSound (MayBeAbsent (statements_of query.now) (S.used shelf.new) found))
+        (nodes_after found S.holds S.used shelf.old shelf.new)
         0 report.ranges 0 report.fetched)) }
     // Under the root of a publication: its answer, by just the needed nodes.
     ensures answer { (p : Publication) → IsPublication p → root.now.0 ≡ root_of p
@@ -144,9 +147,12 @@ pub fn evaluate_in<'a, S: Shelf<'a>, T: Sink>(
         HasWalked (nodes_after found S.holds S.used shelf.old shelf.new)
         0 report.ranges 0 report.fetched)) }
     // These walks are the report's: each gave what its nodes say, from the tops that the manifest names on, and all entries
-    // that they gave are of their trees' forms.
+    // that they gave are of their trees' forms. Where one of them looked for an object and found none, the object's id
+    // stands in the query, or an object lists it that an entry puts; so each object that another entry named is there.
     ensures walks { IfOk result (λ report. HoldsUnder (S.holds shelf.new) root.now.0 (λ found.
-        HasGiven (top_among found.tops) IsFormed (nodes_after found S.holds S.used shelf.old shelf.new)
+        HasGiven (top_among found.tops)
+        (IsSound (MayBeAbsent (statements_of query.now) (S.used shelf.new) found))
+        (nodes_after found S.holds S.used shelf.old shelf.new)
         0 report.ranges 0 report.fetched)) }
     // Under the root of a publication: its answer, by just the needed nodes.
     ensures answer { (p : Publication) → IsPublication p → root.now.0 ≡ root_of p
@@ -211,9 +217,12 @@ pub fn evaluate_within<'a, S: Shelf<'a>, T: Sink>(
         HasWalked (nodes_after found S.holds S.used shelf.old shelf.new)
         0 report.ranges 0 report.fetched)) }
     // These walks are the report's: each gave what its nodes say, from the tops that the manifest names on, and all entries
-    // that they gave are of their trees' forms.
+    // that they gave are of their trees' forms. Where one of them looked for an object and found none, the object's id
+    // stands in the query, or an object lists it that an entry puts; so each object that another entry named is there.
     ensures walks { IfOk result (λ report. HoldsUnder (S.holds shelf.new) root.now.0 (λ found.
-        HasGiven (top_among found.tops) IsFormed (nodes_after found S.holds S.used shelf.old shelf.new)
+        HasGiven (top_among found.tops)
+        (IsSound (MayBeAbsent (statements_of query.now) (S.used shelf.new) found))
+        (nodes_after found S.holds S.used shelf.old shelf.new)
         0 report.ranges 0 report.fetched)) }
     // Under the root of a publication: its answer, by just the needed nodes.
     ensures answer { (p : Publication) → IsPublication p → root.now.0 ≡ root_of p
@@ -267,7 +276,8 @@ fn run_within<'a, S: Shelf<'a>, T: Sink>(
     // As each shelf: no two held nodes have one digest, and what was used is held.
     ensures unlike { IsClashFree (S.holds shelf.new) }
     ensures held { (bytes : List ℕ) → S.used shelf.new bytes → S.holds shelf.new bytes }
-    ensures walked { IfOk result (λ report. HasGiven (top_among manifest.tops) IsFormed
+    ensures walked { IfOk result (λ report. HasGiven (top_among manifest.tops)
+        (IsSound (MayBeAbsent (statements_of statements.now) (S.used shelf.new) manifest))
         (nodes_around S.holds S.used shelf.old shelf.new) 0 report.ranges 0 report.fetched) }
     ensures told { IfErr result (λ fault. (fault ≡ EvalFault.Work)
         ⊎ IsTrueUnder (S.holds shelf.new) (S.used shelf.new) manifest fault) }
@@ -321,7 +331,8 @@ fn run_over<'a, S: Shelf<'a>, T: Sink>(
     // As each shelf: no two held nodes have one digest, and what was used is held.
     ensures unlike { IsClashFree (S.holds shelf.new) }
     ensures held { (bytes : List ℕ) → S.used shelf.new bytes → S.holds shelf.new bytes }
-    ensures walked { OnOk result (HasGiven (top_among manifest.tops) IsFormed
+    ensures walked { OnOk result (HasGiven (top_among manifest.tops)
+        (IsSound (MayBeAbsent (statements_of statements.now) (S.used shelf.new) manifest))
         (nodes_around S.holds S.used shelf.old shelf.new) 0 tally.new.calls 0 tally.new.fetches) }
     ensures told { IfErr result (IsTrueUnder (S.holds shelf.new) (S.used shelf.new) manifest) }
     ensures kept { T.kept sink.new ≡ T.kept sink.old }
@@ -346,6 +357,7 @@ fn run_over<'a, S: Shelf<'a>, T: Sink>(
     let mut memo = Memo::new(alloc);
     let mut source = ShelfSource {
         alloc,
+        statements,
         shelf,
         manifest,
         tally: Tally {
@@ -360,6 +372,7 @@ fn run_over<'a, S: Shelf<'a>, T: Sink>(
     *tally = source.tally;
     let ShelfSource {
         alloc: _,
+        statements: _,
         shelf: _,
         manifest: _,
         tally: _,

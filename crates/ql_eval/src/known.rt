@@ -1,6 +1,6 @@
 //! The objects that were looked up, each once in a query.
 
-ghost use Rattle.std.specs.Prelude.{◌≡◌, ℕ, IfErr, IfOk, List, None, OnOk, Option, Some};
+ghost use Rattle.std.specs.Prelude.{◌≡◌, ℕ, IfErr, IfOk, IfSome, List, None, OnOk, Option, Some};
 ghost use Rattle.std.specs.BTreeMap.{get};
 ghost use Rattle.osm_model.specs.Elements.{Element, ref_cmp};
 ghost use Rattle.osm_model.specs.Sets.{object_at};
@@ -11,13 +11,14 @@ ghost use Rattle.tree_node.specs.declared.tree.Tree.TheVariants.{Objects};
 ghost use Rattle.tree_walk.specs.WalksGiven.{HasGiven};
 ghost use Rattle.osm_keys.specs.Manifests.{top_among};
 ghost use Rattle.osm_keys.specs.Publications.{IsPublication, Publication};
+ghost use Rattle.ql_eval.specs.Absences.{IsPutIn, IsSound};
 ghost use Rattle.ql_eval.specs.Faults.{cause_of_evaluation};
-ghost use Rattle.ql_eval.specs.Forms.{HaveForm, IsFormed};
+ghost use Rattle.ql_eval.specs.Forms.{HaveForm};
 ghost use Rattle.ql_eval.specs.Openings.{IsUnder};
 ghost use Rattle.ql_eval.specs.Questions.{NeedsAsk, object_ask};
 ghost use Rattle.ql_eval.specs.TrueFaults.{IsAbsent};
 ghost use Rattle.ql_eval.specs.internal.Entries.{AreMisread, IsPutBy};
-ghost use Rattle.ql_eval.specs.internal.Objects.{AreAbsent, Remembers};
+ghost use Rattle.ql_eval.specs.internal.Objects.{AreAbsent, AreRead, IsNoneAt, Remembers};
 ghost use Rattle.ql_eval.specs.internal.TrueFaults.{IsTrueUnder};
 ghost use Rattle.tree_walk.specs.Uses.{nodes_around};
 
@@ -50,7 +51,9 @@ pub(crate) fn look_up<'a, S: Shelf<'a>>(
 ) -> Result<(), EvalFault>
     ensures stays { Stays S.is_fixed (S.holds shelf.old) (S.holds shelf.new) }
     ensures grows { (bytes : List ℕ) → S.used shelf.old bytes → S.used shelf.new bytes }
-    ensures walked { OnOk result (HasGiven (top_among manifest.now.tops) IsFormed
+    // Only this object was looked for, if any.
+    ensures walked { OnOk result (HasGiven (top_among manifest.now.tops)
+        (IsSound (λ r. (r ≡ name) × (get ref_cmp objects.new name ≡ Some None)))
         (nodes_around S.holds S.used shelf.old shelf.new)
         tally.old.calls tally.new.calls tally.old.fetches tally.new.fetches) }
     ensures told { IfErr result (IsTrueUnder (S.holds shelf.new) (S.used shelf.new) manifest.now) }
@@ -60,6 +63,8 @@ pub(crate) fn look_up<'a, S: Shelf<'a>>(
         ((object : Option Element) × (get ref_cmp objects.new name ≡ Some object)) }
     ensures absent { AreAbsent (S.used shelf.old) manifest.now objects.old
         → AreAbsent (S.used shelf.new) manifest.now objects.new }
+    ensures read { AreRead (S.used shelf.old) manifest.now objects.old
+        → AreRead (S.used shelf.new) manifest.now objects.new }
     ensures remembers { (p : Publication) → IsUnder p manifest.now
         → Remembers p (S.used shelf.old) objects.old → Remembers p (S.used shelf.new) objects.new }
     ensures answer { (p : Publication) → IsPublication p → IsUnder p manifest.now
@@ -87,12 +92,15 @@ fn find_object<'a, S: Shelf<'a>>(
 ) -> Result<Option<Object>, EvalFault>
     ensures stays { Stays S.is_fixed (S.holds shelf.old) (S.holds shelf.new) }
     ensures grows { (bytes : List ℕ) → S.used shelf.old bytes → S.used shelf.new bytes }
-    ensures walked { OnOk result (HasGiven (top_among manifest.now.tops) IsFormed
+    ensures walked { IfOk result (λ object. HasGiven (top_among manifest.now.tops)
+        (IsSound (IsNoneAt name object))
         (nodes_around S.holds S.used shelf.old shelf.new)
         tally.old.calls tally.new.calls tally.old.fetches tally.new.fetches) }
     ensures told { IfErr result (IsTrueUnder (S.holds shelf.new) (S.used shelf.new) manifest.now) }
     ensures absent { IfOk result
         (λ object. object ≡ None → IsAbsent (S.used shelf.new) manifest.now name) }
+    ensures put { IfOk result
+        (λ object. IfSome object (IsPutIn (S.used shelf.new) manifest.now)) }
     ensures answer { (p : Publication) → IsPublication p → IsUnder p manifest.now
         → Outcome cause_of_evaluation (λ object. object ≡ object_at p.objects name)
         (NeedsAsk p (object_ask name))

@@ -35,6 +35,7 @@ pub(crate) fn members_of<W: Source>(
     ensures later { W.later source.old source.new }
     ensures walked { OnOk result (W.walked source.old source.new) }
     ensures told { IfErr result (W.tells source.new) }
+    ensures listed { IfOk result (AllGiven (W.may_be_absent source.new)) }
     ensures there { OnOk result (AreKnownParents (W.knows source.new) names.now) }
     ensures answer { (p : Publication) → IsPublication p → W.under source.old p
         → AreThere p.objects names.now
@@ -51,10 +52,12 @@ pub(crate) fn members_of<W: Source>(
 
 /// Adds what the object with a reference lists.
 fn add_listed<W: Source>(source: &mut W, name: Ref, listed: &mut Vec<Ref>) -> Result<(), EvalFault>
-    requires { W.gave source.old name }
+    requires gave { W.gave source.old name }
+    requires listed { AllGiven (W.may_be_absent source.old) listed.old.items }
     ensures later { W.later source.old source.new }
     ensures walked { OnOk result (W.walked source.old source.new) }
     ensures told { IfErr result (W.tells source.new) }
+    ensures listed { OnOk result (AllGiven (W.may_be_absent source.new) listed.new.items) }
     ensures there { OnOk result (IsKnownParent (W.knows source.new) name) }
     ensures answer { (p : Publication) → IsPublication p → W.under source.old p
         → IsThere p.objects name
@@ -76,12 +79,13 @@ fn add_listed<W: Source>(source: &mut W, name: Ref, listed: &mut Vec<Ref>) -> Re
     }
 }
 
-/// Those of some references that are of objects that are there, as a set.
+/// Those of some references that are of objects that are there, as a set. Each may be absent.
 pub(crate) fn those_there<W: Source>(
     alloc: Global,
     source: &mut W,
     names: &[Ref],
 ) -> Result<RefSet, EvalFault>
+    requires { AllGiven (W.may_be_absent source.old) names.now }
     ensures later { W.later source.old source.new }
     ensures walked { OnOk result (W.walked source.old source.new) }
     ensures told { IfErr result (W.tells source.new) }
@@ -101,7 +105,8 @@ pub(crate) fn those_there<W: Source>(
 
 /// Adds a reference where its object is there.
 fn add_there<W: Source>(source: &mut W, name: Ref, there: &mut Vec<Ref>) -> Result<(), EvalFault>
-    requires { AllGiven (W.gave source.old) there.old.items }
+    requires may { W.may_be_absent source.old name }
+    requires named { AllGiven (W.gave source.old) there.old.items }
     ensures later { W.later source.old source.new }
     ensures walked { OnOk result (W.walked source.old source.new) }
     ensures told { IfErr result (W.tells source.new) }

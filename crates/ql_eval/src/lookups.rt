@@ -10,7 +10,8 @@ ghost use Rattle.osm_keys.specs.Publications.{IsPublication, Publication};
 ghost use Rattle.ref_sets.specs.Sets.{IsSetOf};
 ghost use Rattle.ql_meaning.specs.Values.{IsRefOf};
 ghost use Rattle.ql_eval.specs.Faults.{cause_of_evaluation};
-ghost use Rattle.ql_eval.specs.Forms.{IsFormed};
+ghost use Rattle.ql_eval.specs.Absences.{IsSound};
+ghost use Rattle.ql_eval.specs.internal.Objects.{NeverAbsent};
 ghost use Rattle.ql_eval.specs.Openings.{IsUnder};
 ghost use Rattle.ql_eval.specs.TrueFaults.{IsNamedIn};
 ghost use Rattle.ql_eval.specs.internal.Giving.{AllGiven};
@@ -45,7 +46,7 @@ pub(crate) fn find_names<'a, S: Shelf<'a>>(
 ) -> Result<RefSet, EvalFault>
     ensures stays { Stays S.is_fixed (S.holds shelf.old) (S.holds shelf.new) }
     ensures grows { (bytes : List ℕ) → S.used shelf.old bytes → S.used shelf.new bytes }
-    ensures walked { OnOk result (HasGiven (top_among manifest.now.tops) IsFormed
+    ensures walked { OnOk result (HasGiven (top_among manifest.now.tops) (IsSound NeverAbsent)
         (nodes_around S.holds S.used shelf.old shelf.new)
         tally.old.calls tally.new.calls tally.old.fetches tally.new.fetches) }
     ensures told { IfErr result (IsTrueUnder (S.holds shelf.new) (S.used shelf.new) manifest.now) }
@@ -73,7 +74,7 @@ pub(crate) fn count_names<'a, S: Shelf<'a>>(
 ) -> Result<u64, EvalFault>
     ensures stays { Stays S.is_fixed (S.holds shelf.old) (S.holds shelf.new) }
     ensures grows { (bytes : List ℕ) → S.used shelf.old bytes → S.used shelf.new bytes }
-    ensures walked { OnOk result (HasGiven (top_among manifest.now.tops) IsFormed
+    ensures walked { OnOk result (HasGiven (top_among manifest.now.tops) (IsSound NeverAbsent)
         (nodes_around S.holds S.used shelf.old shelf.new)
         tally.old.calls tally.new.calls tally.old.fetches tally.new.fetches) }
     ensures told { IfErr result (IsTrueUnder (S.holds shelf.new) (S.used shelf.new) manifest.now) }

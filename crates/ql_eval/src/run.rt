@@ -1,11 +1,13 @@
 //! Statements that write sets, asked of a source.
 
 ghost use Rattle.std.specs.Prelude.{◌≡◌, ℕ, IfErr, IfOk, List, OnOk};
+ghost use Rattle.osm_model.specs.declared.reference.Ref.{Ref};
 ghost use Rattle.tree_node.specs.Outcomes.{Outcome};
 ghost use Rattle.osm_keys.specs.Publications.{IsPublication, Publication};
 ghost use Rattle.ql_syntax.specs.StatementViews.{statement_of, statements_of};
 ghost use Rattle.ql_meaning.specs.Meanings.{After, AfterAll, Telling};
 ghost use Rattle.ref_sets.specs.NamedSets.{lists_of};
+ghost use Rattle.ql_eval.specs.Absences.{HasIdOf, HaveIdOf};
 ghost use Rattle.ql_eval.specs.Asks.{AskedBy, AskedByAll};
 ghost use Rattle.ql_eval.specs.Faults.{cause_of_evaluation};
 ghost use Rattle.ql_eval.specs.Questions.{NeededBy};
@@ -36,7 +38,8 @@ pub(crate) fn run<'q, W: Source>(
     source: &mut W,
     meter: &mut Meter,
 ) -> Result<(), EvalFault>
-    requires { AllSetsGiven (W.gave source.old) (lists_of sets.old.named.items) }
+    requires asked { (r : Ref) → HasIdOf (statement_of statement.now) r → W.may_be_absent source.old r }
+    requires named { AllSetsGiven (W.gave source.old) (lists_of sets.old.named.items) }
     ensures later { W.later source.old source.new }
     ensures walked { OnOk result (W.walked source.old source.new) }
     ensures told { IfErr result (W.tells source.new) }
@@ -110,7 +113,8 @@ fn run_all<'q, W: Source>(
     source: &mut W,
     meter: &mut Meter,
 ) -> Result<Vec<Ref>, EvalFault>
-    requires { AllSetsGiven (W.gave source.old) (lists_of sets.old.named.items) }
+    requires asked { (r : Ref) → HaveIdOf (statements_of parts.now) r → W.may_be_absent source.old r }
+    requires named { AllSetsGiven (W.gave source.old) (lists_of sets.old.named.items) }
     ensures later { W.later source.old source.new }
     ensures walked { OnOk result (W.walked source.old source.new) }
     ensures told { IfErr result (W.tells source.new) }

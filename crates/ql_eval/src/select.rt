@@ -3,6 +3,7 @@
 ghost use Rattle.std.specs.Prelude.{◌≡◌, ◌<◌, ℕ, IfErr, IfOk, List, OnOk};
 ghost use Rattle.std.specs.List.{AllByRecursion};
 ghost use Rattle.std.specs.Option.{ForSome};
+ghost use Rattle.osm_model.specs.declared.reference.Ref.{Ref};
 ghost use Rattle.tree_node.specs.Outcomes.{Outcome};
 ghost use Rattle.osm_keys.specs.Publications.{IsPublication, Publication};
 ghost use Rattle.ql_syntax.specs.LawfulQueries.{Allows};
@@ -11,6 +12,7 @@ ghost use Rattle.ref_sets.specs.Sets.{IsSetOf};
 ghost use Rattle.ref_sets.specs.NamedSets.{lists_of};
 ghost use Rattle.ql_meaning.specs.Values.{IsRefOf, IsSelected};
 ghost use Rattle.ql_plan.specs.Plans.{filters_in, never, rank_of};
+ghost use Rattle.ql_eval.specs.Absences.{IsAskedById};
 ghost use Rattle.ql_eval.specs.Asks.{AskedByPlan, AskedBySelect};
 ghost use Rattle.ql_eval.specs.Faults.{cause_of_evaluation};
 ghost use Rattle.ql_eval.specs.Questions.{NeededBy};
@@ -43,7 +45,9 @@ pub(crate) fn select<W: Source>(
     filters: &[Filter<'_>],
     sets: &NamedSets<'_>,
 ) -> Result<RefSet, EvalFault>
-    requires { AllSetsGiven (W.gave source.old) (lists_of sets.now.named.items) }
+    requires asked { (r : Ref) → IsAskedById pick (filters_of filters.now) r
+        → W.may_be_absent source.old r }
+    requires named { AllSetsGiven (W.gave source.old) (lists_of sets.now.named.items) }
     ensures later { W.later source.old source.new }
     ensures walked { OnOk result (W.walked source.old source.new) }
     ensures told { IfErr result (W.tells source.new) }
@@ -81,6 +85,8 @@ fn answered<W: Source>(
     sets: &NamedSets<'_>,
 ) -> Result<RefSet, EvalFault>
     requires base { ForSome plan.now.base (λ base. rank_of base < never) }
+    requires asked { (r : Ref) → IsAskedById pick (filters_in plan.now) r
+        → W.may_be_absent source.old r }
     requires named { AllSetsGiven (W.gave source.old) (lists_of sets.now.named.items) }
     ensures later { W.later source.old source.new }
     ensures walked { OnOk result (W.walked source.old source.new) }

@@ -4,7 +4,6 @@ ghost use Rattle.std.specs.Prelude.{◌≡◌, ℕ, List};
 ghost use Rattle.tree_node.specs.Shelves.{Stays};
 ghost use Rattle.tree_walk.specs.WalksGiven.{HasGiven};
 ghost use Rattle.osm_keys.specs.Manifests.{top_among};
-ghost use Rattle.ql_eval.specs.Forms.{IsFormed};
 ghost use Rattle.osm_keys.specs.Publications.{Publication};
 ghost use Rattle.ql_eval.specs.Openings.{IsUnder};
 ghost use Rattle.ql_eval.specs.internal.Objects.{Remembers};
@@ -19,7 +18,7 @@ use crate::question::Question;
 use crate::source::Source;
 use osm_keys::Manifest;
 use osm_model::{BoxArea, Object, Ref};
-use ql_syntax::Recursion;
+use ql_syntax::{Recursion, Stmt};
 use ref_sets::RefSet;
 use std::alloc::{AllocError, Global};
 use std::rc::Rc;
@@ -27,8 +26,10 @@ use tree_node::Shelf;
 use tree_walk::Tally;
 
 /// The trees under a manifest, read from a shelf.
-pub(crate) struct ShelfSource<'s, 'a, S: Shelf<'a>> {
+pub(crate) struct ShelfSource<'s, 'q, 'a, S: Shelf<'a>> {
     pub(crate) alloc: Global,
+    /// The statements that are answered.
+    pub(crate) statements: &'s [Stmt<'q>],
     pub(crate) shelf: &'s mut S,
     pub(crate) manifest: Manifest,
     pub(crate) tally: Tally,
@@ -40,20 +41,24 @@ pub(crate) struct ShelfSource<'s, 'a, S: Shelf<'a>> {
     pub(crate) nodes: &'a [u8],
 }
 
-impl<'s, 'a, S: Shelf<'a>> Source for ShelfSource<'s, 'a, S> {
+impl<'s, 'q, 'a, S: Shelf<'a>> Source for ShelfSource<'s, 'q, 'a, S> {
     ghost use Rattle.std.specs.Prelude.{◌≡◌, ℕ, List, Option, Some, refl};
     ghost use Rattle.std.specs.BTreeMap.{get};
     ghost use Rattle.osm_model.specs.Elements.{Element, ref_cmp};
     ghost use Rattle.osm_model.specs.declared.reference.Ref.{Ref};
-    ghost use Rattle.std.proofs.Common.{◌∙◌, ◌⊎◌, inl, inr, subst, sym};
+    ghost use Rattle.std.proofs.Common.{◌∙◌, ◌⊎◌, ap, inl, inr, subst, sym};
     ghost use Rattle.osm_keys.specs.declared.manifest.Manifest.{Manifest};
     ghost use Rattle.tree_node.specs.Shelves.{Stays};
     ghost use Rattle.tree_walk.specs.WalksGiven.{HasGiven};
     ghost use Rattle.osm_keys.specs.Manifests.{top_among};
-    ghost use Rattle.ql_eval.specs.Forms.{IsFormed};
+    ghost use Rattle.ql_eval.specs.Absences.{IsSound};
+    ghost use Rattle.ql_eval.proofs.AbsenceLemmas.{may_still, sound_later};
+    ghost use Rattle.ql_syntax.specs.StatementViews.{statements_of};
+    ghost use Rattle.ql_syntax.specs.declared.statement.Stmt.{Stmt};
+    ghost use Rattle.std.specs.Borrow.{Bor};
     ghost use Rattle.osm_keys.specs.Publications.{Publication};
     ghost use Rattle.ql_eval.specs.Openings.{IsUnder};
-    ghost use Rattle.ql_eval.specs.internal.Objects.{AreAbsent, IsGivenOrThere, IsToldAbsent, Remembers};
+    ghost use Rattle.ql_eval.specs.internal.Objects.{AreAbsent, AreRead, IsGivenOrThere, IsToldAbsent, MayBeAbsentNow, Remembers};
     ghost use Rattle.ql_eval.specs.internal.Remembering.{AreGiven, AreRecalled, IsRemembered, Recalls};
     ghost use Rattle.ql_eval.specs.internal.TrueFaults.{IsTrueUnder};
     ghost use Rattle.std.specs.List.{Contains};
@@ -74,6 +79,8 @@ impl<'s, 'a, S: Shelf<'a>> Source for ShelfSource<'s, 'a, S> {
 
     ghost gave = { λ o r. IsGivenOrThere (S.used o.shelf.now) o.manifest o.objects.now r
         ⊎ IsRemembered o.memo.now.remembered.items r };
+
+    ghost may_be_absent = { λ o r. MayBeAbsentNow (statements_of o.statements.now) o.objects.now r };
 
     ghost tells = { λ o fault. AreAbsent (S.used o.shelf.now) o.manifest o.objects.now
         → AreGiven (IsGivenOrThere (S.used o.shelf.now) o.manifest o.objects.now)
@@ -101,12 +108,15 @@ impl<'s, 'a, S: Shelf<'a>> Source for ShelfSource<'s, 'a, S> {
         × (AreGiven (IsGivenOrThere (S.used o.shelf.now) o.manifest o.objects.now)
         o.memo.now.remembered.items
         → AreGiven (IsGivenOrThere (S.used n.shelf.now) n.manifest n.objects.now)
-        n.memo.now.remembered.items) };
+        n.memo.now.remembered.items)
+        × (o.statements ≡ n.statements)
+        × (AreRead (S.used o.shelf.now) o.manifest o.objects.now
+        → AreRead (S.used n.shelf.now) n.manifest n.objects.now) };
 
-    ghost walked = { λ o n. HasGiven (top_among n.manifest.tops) IsFormed (record { held = S.holds n.shelf.now; before = S.used o.shelf.now; after = S.used n.shelf.now })
+    ghost walked = { λ o n. HasGiven (top_among n.manifest.tops) (IsSound (MayBeAbsentNow (statements_of n.statements.now) n.objects.now)) (record { held = S.holds n.shelf.now; before = S.used o.shelf.now; after = S.used n.shelf.now })
         o.tally.calls n.tally.calls o.tally.fetches n.tally.fetches };
 
-    ghost itself = { λ o. (refl, refl, (λ x. ((λ _ has. has), (λ has. has))), (λ x has. has), (λ p under known. known), (λ r object known. known), (λ absent. absent), (λ r given. given), (λ p under known recalled. recalled), (λ r is. is), (λ given. given)) };
+    ghost itself = { λ o. (refl, refl, (λ x. ((λ _ has. has), (λ has. has))), (λ x has. has), (λ p under known. known), (λ r object known. known), (λ absent. absent), (λ r given. given), (λ p under known recalled. recalled), (λ r is. is), (λ given. given), refl, (λ read. read)) };
 
     ghost chained = { λ o n m first second. (
       first.0 ∙ second.0,
@@ -120,6 +130,8 @@ impl<'s, 'a, S: Shelf<'a>> Source for ShelfSource<'s, 'a, S> {
       (λ p under known recalled. second.8 p (subst (λ (m : Manifest). IsUnder p m) first.1 under) (first.4 p under known) (first.8 p under known recalled)),
       (λ r is. second.9 r (first.9 r is)),
       (λ given. second.10 (first.10 given)),
+      first.11 ∙ second.11,
+      (λ read. second.12 (first.12 read)),
     ) };
 
     ghost stays = { λ o n later. later.2 };
@@ -134,6 +146,10 @@ impl<'s, 'a, S: Shelf<'a>> Source for ShelfSource<'s, 'a, S> {
 
     ghost same_gave = { λ o n r later given. elim given [ inl entry ↦ inl (later.7 r entry) | inr kept ↦ inr (later.9 r kept) ] };
 
+    ghost still_may = { λ o n r later may. may_still (statements_of o.statements.now) (statements_of n.statements.now) o.objects.now n.objects.now (ap (λ (s : Bor (List Stmt)). statements_of s.now) later.11) later.5 r may };
+
+    ghost listed_may = { λ o name r object known lists. inr (name, object, known, lists) };
+
     ghost found_gave = { λ o r object known. inl (inr (object, known)) };
 
     ghost not_there = { λ o r known given absent kept.
@@ -144,11 +160,13 @@ impl<'s, 'a, S: Shelf<'a>> Source for ShelfSource<'s, 'a, S> {
 
     ghost recalled_true = { λ o p how set refs recalls is under there. under.2 is how set refs recalls there };
 
-    ghost no_walk = { λ o. given_none (top_among o.manifest.tops) IsFormed (S.holds o.shelf.now) (S.used o.shelf.now) o.tally.calls o.tally.fetches };
+    ghost no_walk = { λ o. given_none (top_among o.manifest.tops) _ (S.holds o.shelf.now) (S.used o.shelf.now) o.tally.calls o.tally.fetches };
 
-    ghost more_walks = { λ o n m first second one two. given_then (top_among m.manifest.tops) IsFormed _ _ _ _ _ _ _ _ _ _ _ second.2
-        (subst (λ (found : Manifest). HasGiven (top_among found.tops) IsFormed
-        (record { held = S.holds n.shelf.now; before = S.used o.shelf.now; after = S.used n.shelf.now }) o.tally.calls n.tally.calls o.tally.fetches n.tally.fetches) second.1 one) two };
+    ghost more_walks = { λ o n m first second one two. given_then (top_among m.manifest.tops) _ _ _ _ _ _ _ _ _ _ _ _ second.2
+        (sound_later (top_among m.manifest.tops) _ _ _ _ _ _ _ _ _
+        (λ r may. may_still (statements_of n.statements.now) (statements_of m.statements.now) n.objects.now m.objects.now (ap (λ (s : Bor (List Stmt)). statements_of s.now) second.11) second.5 r may)
+        (subst (λ (found : Manifest). HasGiven (top_among found.tops) (IsSound (MayBeAbsentNow (statements_of n.statements.now) n.objects.now))
+        (record { held = S.holds n.shelf.now; before = S.used o.shelf.now; after = S.used n.shelf.now }) o.tally.calls n.tally.calls o.tally.fetches n.tally.fetches) second.1 one)) two };
 
     fn announce(&mut self, name: Ref) {
         announce_object(&mut *self.shelf, &self.manifest, name);

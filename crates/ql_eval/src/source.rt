@@ -3,6 +3,7 @@
 ghost use Rattle.std.specs.Prelude.{Bool, ◌≡◌, ◌↔◌, ℕ, IfErr, IfOk, IfSome, List, None, OnOk, Option, Some};
 ghost use Rattle.std.specs.Option.{option_copied};
 ghost use Rattle.osm_model.specs.Elements.{Element};
+ghost use Rattle.osm_model.specs.Membership.{BodyLists};
 ghost use Rattle.osm_model.specs.Sets.{object_at};
 ghost use Rattle.osm_model.specs.declared.reference.Ref.{Ref};
 ghost use Rattle.tree_node.specs.Outcomes.{Outcome};
@@ -57,6 +58,10 @@ pub(crate) trait Source {
     /// An entry that the nodes used so far give names this object, or a look-up found it.
     ghost gave: { Self → Ref → Type 0 };
 
+    /// The object with this reference may turn out not to be there: the query has its id, or an object that was looked up
+    /// lists it.
+    ghost may_be_absent: { Self → Ref → Type 0 };
+
     /// It is remembered that this recursion from this set gave this.
     ghost recalls: { Self → Recursion → List Ref → List Ref → Type 0 };
 
@@ -69,10 +74,12 @@ pub(crate) trait Source {
         ensures walked { walked self.old self.new }
         ensures used { SameNodes (used self.old) (used self.new) };
 
-    /// Looks up the object with this reference, unless that was done before. Afterwards it is known.
+    /// Looks up the object with this reference, unless that was done before. Afterwards it is known. A walk counts as one
+    /// of a sound evaluation only if it found the object, or the object may be absent.
     fn look_up(&mut self, name: Ref) -> Result<(), EvalFault>
         ensures later { later self.old self.new }
-        ensures walked { OnOk result (walked self.old self.new) }
+        ensures walked { OnOk result
+            ((knows self.new name None → may_be_absent self.new name) → walked self.old self.new) }
         ensures told { IfErr result (tells self.new) }
         ensures known { OnOk result ((object : Option Element) × knows self.new name object) }
         ensures answer { (p : Publication) → IsPublication p → under self.old p
@@ -157,6 +164,11 @@ pub(crate) trait Source {
     ghost out_of_memory: { (s : Self) → tells s Memory };
 
     ghost same_gave: { (s t : Self) (r : Ref) → later s t → gave s r → gave t r };
+
+    ghost still_may: { (s t : Self) (r : Ref) → later s t → may_be_absent s r → may_be_absent t r };
+
+    ghost listed_may: { (s : Self) (name r : Ref) (o : Element) → knows s name (Some o)
+        → BodyLists o.body r → may_be_absent s r };
 
     ghost found_gave: { (s : Self) (r : Ref) (o : Element) → knows s r (Some o) → gave s r };
 

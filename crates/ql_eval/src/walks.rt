@@ -13,7 +13,8 @@ ghost use Rattle.tree_walk.specs.WalksGiven.{HasGiven};
 ghost use Rattle.tree_walk.specs.Walks.{IsEntryIn};
 ghost use Rattle.osm_keys.specs.Manifests.{top_among};
 ghost use Rattle.osm_keys.specs.Publications.{IsPublication, Publication};
-ghost use Rattle.ql_eval.specs.Forms.{IsFormed};
+ghost use Rattle.ql_eval.specs.Absences.{IsSound};
+ghost use Rattle.ql_eval.specs.internal.Objects.{NeverAbsent};
 ghost use Rattle.ql_eval.specs.Openings.{IsUnder};
 ghost use Rattle.ql_eval.specs.Questions.{Counted, Listed, NeedsAsk};
 ghost use Rattle.tree_walk.specs.Uses.{nodes_around};
@@ -96,7 +97,7 @@ pub(crate) fn count_in<'a, S: Shelf<'a>>(
     requires { IsIn (range_of keys.now) keys.now.lo.now }
     ensures stays { Stays S.is_fixed (S.holds shelf.old) (S.holds shelf.new) }
     ensures grows { (bytes : List ℕ) → S.used shelf.old bytes → S.used shelf.new bytes }
-    ensures walked { OnOk result (HasGiven (top_among manifest.now.tops) IsFormed
+    ensures walked { OnOk result (HasGiven (top_among manifest.now.tops) (IsSound NeverAbsent)
         (nodes_around S.holds S.used shelf.old shelf.new)
         tally.old.calls tally.new.calls tally.old.fetches tally.new.fetches) }
     ensures told { IfErr result

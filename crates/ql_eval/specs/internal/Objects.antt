@@ -1,17 +1,20 @@
 -- What reading a line gives, and what is known of the objects that were looked up.
 use Rattle.std.specs.BTreeMap.{BTreeMap, get}
 use Rattle.std.specs.List.{Contains}
-use Rattle.std.specs.Prelude.{◌≡◌, ◌≢◌, ◌⊎◌, ℕ, List, Option, Some, None, Result, Err, ⊤}
+use Rattle.std.specs.Prelude.{◌≡◌, ◌≢◌, ◌⊎◌, ℕ, List, Option, Some, None, Result, Err, ⊤, ⊥}
 use Rattle.opl_codec.specs.declared.cause.OplCause.TheVariants as causes
 use Rattle.opl_codec.specs.declared.change.Change.{Change}
 use Rattle.opl_codec.specs.declared.fault.OplFault.{OplFault}
 use Rattle.osm_model.specs.Elements.{Element, ref_cmp}
+use Rattle.osm_model.specs.Membership.{BodyLists}
 use Rattle.osm_model.specs.Sets.{object_at}
 use Rattle.osm_model.specs.declared.kind.Kind.TheVariants as kinds
 use Rattle.osm_model.specs.declared.reference.Ref.{Ref}
 use Rattle.osm_keys.specs.Publications.{IsPublication, Publication}
 use Rattle.tree_node.specs.Outcomes.{Clash}
 use Rattle.osm_keys.specs.declared.manifest.Manifest.{Manifest}
+use Rattle.ql_syntax.specs.Statements.{Statements}
+use Rattle.ql_eval.specs.Absences.{HaveIdOf, IsPutIn}
 use Rattle.ql_eval.specs.Questions.{NeedsAsk, object_ask}
 use Rattle.ql_eval.specs.TrueFaults.{IsAbsent, IsNamedIn}
 
@@ -47,6 +50,26 @@ AreKnownParents knows names = (r : Ref) → Contains names r → IsKnownParent k
 -- where none is remembered there is none
 abbrev pub AreAbsent : (List ℕ → Type 0) → Manifest → BTreeMap Ref (Option Element) → Type 0
 AreAbsent used found objects = (r : Ref) → get ref_cmp objects r ≡ Some None → IsAbsent used found r
+
+-- where an object is remembered, the used nodes give the entry that puts it
+abbrev pub AreRead : (List ℕ → Type 0) → Manifest → BTreeMap Ref (Option Element) → Type 0
+AreRead used found objects = (r : Ref) (o : Element) → get ref_cmp objects r ≡ Some (Some o) → IsPutIn used found o
+
+-- an object that is remembered lists it
+abbrev pub IsListedByKnown : BTreeMap Ref (Option Element) → Ref → Type 0
+IsListedByKnown objects r = (name : Ref) × (o : Element) × (get ref_cmp objects name ≡ Some (Some o)) × BodyLists o.body r
+
+-- the statements have its id, or an object that is remembered lists it
+abbrev pub MayBeAbsentNow : Statements → BTreeMap Ref (Option Element) → Ref → Type 0
+MayBeAbsentNow statements objects r = HaveIdOf statements r ⊎ IsListedByKnown objects r
+
+-- no object may be absent,
+abbrev pub NeverAbsent : Ref → Type 0
+NeverAbsent r = ⊥
+
+-- or only this one, and only where none was found
+abbrev pub IsNoneAt : Ref → Option Element → Ref → Type 0
+IsNoneAt name object r = (r ≡ name) × (object ≡ None)
 
 -- an entry that the used nodes give names it, or a look-up found it
 abbrev pub IsGivenOrThere : (List ℕ → Type 0) → Manifest → BTreeMap Ref (Option Element) → Ref → Type 0

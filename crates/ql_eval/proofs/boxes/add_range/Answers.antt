@@ -16,7 +16,8 @@ use Rattle.osm_keys.specs.Manifests.{top_among}
 use Rattle.ql_eval.specs.Forms.{HaveForm}
 use Rattle.ql_eval.specs.internal.TrueFaults.{IsTrueUnder}
 use Rattle.ql_eval.proofs.StepLemmas.{refused_as, then_read, walk_cause}
-use Rattle.ql_eval.proofs.WalkLemmas.{read_told, walk_read, walk_told}
+use Rattle.ql_eval.proofs.AbsenceLemmas.{no_objects, walk_read}
+use Rattle.ql_eval.proofs.WalkLemmas.{read_told, walk_told}
 use Rattle.std.proofs.Common.{refl}
 use Rattle.ql_eval.proofs.GivenLemmas.{box_named}
 use Rattle.ql_eval.proofs.boxes.add_range.Goals as goal
@@ -47,6 +48,7 @@ returns-in_err-found-clause-told g c =
 pub returns-clause-walked : goal.returns-clause-walked
 returns-clause-walked g c = walk_read (top_among c.args.manifest.now.tops) _ _ _ _ _ _ _ Cells _ (bindings_of c.in_ok-found.found.items) c.add_nodes.result c.entries_in.ensures.calls c.in_ok-found.ensures.gives
     (subst (λ (all : List Item). OnOk c.add_nodes.result (HaveForm Cells (bindings_of all))) c.deref.ensures.value c.add_nodes.ensures.formed)
+    (λ r tree range. absurd (no_objects tree))
 
 pub returns-clause-told : goal.returns-clause-told
 returns-clause-told g c = read_told _ _ _ c.args.manifest.now _ _ Cells _ (bindings_of c.in_ok-found.found.items) c.add_nodes.result c.in_ok-found.ensures.gives

@@ -14,8 +14,9 @@ use Rattle.osm_keys.specs.Manifests.{top_among}
 use Rattle.tree_walk.specs.Given.{IsWalk, These}
 use Rattle.ql_eval.specs.Forms.{HaveForm}
 use Rattle.ql_eval.specs.internal.TrueFaults.{IsTrueUnder}
+use Rattle.ql_eval.proofs.AbsenceLemmas.{walk_looked, walk_put}
 use Rattle.ql_eval.proofs.StepLemmas.{refused_as, then_read, walk_cause}
-use Rattle.ql_eval.proofs.WalkLemmas.{none_given, read_told, walk_read, walk_told}
+use Rattle.ql_eval.proofs.WalkLemmas.{none_given, read_told, walk_told}
 use Rattle.ql_eval.proofs.known.find_object.Goals as goal
 
 pub returns-in_err-found-clause-answer : goal.returns-in_err-found-clause-answer
@@ -45,8 +46,17 @@ returns-in_err-found-clause-told g c =
     (walk_told _ _ c.args.manifest.now Objects _ c.in_err-found.ensures.told)
 
 pub returns-clause-walked : goal.returns-clause-walked
-returns-clause-walked g c = walk_read (top_among c.args.manifest.now.tops) _ _ _ _ _ _ _ Objects _ (bindings_of c.in_ok-found.found.items) c.last_object.result c.entries_in.ensures.calls c.in_ok-found.ensures.gives
+returns-clause-walked g c =
+    let fits : FitsSigned w64 c.args.name.id = search rules in
+    walk_looked (top_among c.args.manifest.now.tops) _ _ _ _ _ _ _ c.args.name (bindings_of c.in_ok-found.found.items) c.last_object.result fits c.entries_in.ensures.calls
+    (subst (λ (key : List ℕ). IsWalk (uses (g.S.Shelf.holds c.entries_in.new.shelf) (g.S.Shelf.used c.args.shelf.now) (g.S.Shelf.used c.entries_in.new.shelf)) c.args.tally.now.fetches c.entries_in.new.tally.fetches Objects (top_among c.args.manifest.now.tops Objects) (record { lo = key; hi = key; under = false }) (These (bindings_of c.in_ok-found.found.items)))
+    c.reference_key-key.ensures c.in_ok-found.ensures.gives)
     (subst (λ (all : List Item). OnOk c.last_object.result (HaveForm Objects (bindings_of all))) c.deref.ensures.value c.last_object.ensures.formed)
+    (subst (λ (all : List Item). IfOk c.last_object.result (IsPutBy (bindings_of all))) c.deref.ensures.value c.last_object.ensures.put)
+
+pub returns-clause-put : goal.returns-clause-put
+returns-clause-put g c = walk_put _ _ _ c.args.manifest.now _ _ _ (bindings_of c.in_ok-found.found.items) c.last_object.result c.in_ok-found.ensures.gives
+    (subst (λ (all : List Item). IfOk c.last_object.result (IsPutBy (bindings_of all))) c.deref.ensures.value c.last_object.ensures.put)
 
 pub returns-clause-told : goal.returns-clause-told
 returns-clause-told g c = read_told _ _ _ c.args.manifest.now _ _ Objects _ (bindings_of c.in_ok-found.found.items) c.last_object.result c.in_ok-found.ensures.gives

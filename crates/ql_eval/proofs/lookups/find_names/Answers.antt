@@ -16,7 +16,8 @@ use Rattle.ql_eval.proofs.EntryLemmas.{answered}
 use Rattle.osm_keys.specs.Manifests.{top_among}
 use Rattle.ql_eval.specs.internal.TrueFaults.{IsTrueUnder}
 use Rattle.ql_eval.proofs.StepLemmas.{refused_as, then_read, walk_cause}
-use Rattle.ql_eval.proofs.WalkLemmas.{read_told, walk_read, walk_told}
+use Rattle.ql_eval.proofs.AbsenceLemmas.{asked_many, walk_read}
+use Rattle.ql_eval.proofs.WalkLemmas.{read_told, walk_told}
 use Rattle.ql_eval.proofs.GivenLemmas.{read_named}
 use Rattle.ql_eval.proofs.lookups.find_names.Goals as goal
 
@@ -54,6 +55,7 @@ returns-in_err-found-clause-told g c =
 pub returns-clause-walked : goal.returns-clause-walked
 returns-clause-walked g c = walk_read (top_among c.args.manifest.now.tops) _ _ _ _ _ _ _ c.tree_of-tree.result _ (bindings_of c.in_ok-found.found.items) c.names_in.result c.entries_in.ensures.calls c.in_ok-found.ensures.gives
     (subst (λ (all : List Item). OnOk c.names_in.result (HaveForm c.tree_of-tree.result (bindings_of all))) c.deref.ensures.value c.names_in.ensures.formed)
+    (λ r tree range. asked_many (question_of c.args.question.now) r (sym (c.as_range.ensures.value ∙ c.in_ok-keys.ensures.keys) ∙ range))
 
 pub returns-clause-told : goal.returns-clause-told
 returns-clause-told g c = read_told _ _ _ c.args.manifest.now _ _ c.tree_of-tree.result _ (bindings_of c.in_ok-found.found.items) c.names_in.result c.in_ok-found.ensures.gives

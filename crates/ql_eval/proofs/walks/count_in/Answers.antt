@@ -3,7 +3,7 @@ use Rattle.tree_node.specs.NodeRefs.{number_of}
 use Rattle.tree_walk.specs.Walks.{IsTopOf}
 use Rattle.osm_keys.specs.Publications.{shape_in}
 use Rattle.osm_keys.proofs.shared.EntryBytes.{is_top}
-use Rattle.ql_eval.proofs.WalkLemmas.{walk_counted}
+use Rattle.ql_eval.proofs.AbsenceLemmas.{walk_counted}
 use Rattle.osm_keys.specs.Manifests.{top_among}
 use Rattle.tree_node.proofs.shared.OutcomeLaws.{uses}
 use Rattle.std.specs.Prelude.{IfErr, IfOk}

@@ -1,7 +1,7 @@
 use Rattle.std.proofs.Common.{List, ℕ, refl}
 use Rattle.tree_walk.proofs.shared.WalksGivenLaws.{given_same}
 use Rattle.osm_keys.specs.Manifests.{top_among}
-use Rattle.ql_eval.specs.Forms.{IsFormed}
+use Rattle.ql_eval.proofs.AbsenceLemmas.{read_later}
 use Rattle.ql_eval.proofs.GivenLemmas.{given_later}
 use Rattle.ql_eval.proofs.KnownLemmas.{absent_later, remembers_later}
 use Rattle.ql_eval.proofs.RememberLemmas.{all_recalled_later}
@@ -21,7 +21,9 @@ returns-clause-later g c =
       (λ p under known recalled. all_recalled_later p _ _ c.args.self.now.memo.now.remembered.items grows recalled),
       (λ r is. is),
       (λ given r is. given_later _ _ c.args.self.now.manifest c.args.self.now.objects.now c.args.self.now.objects.now grows (λ s o known. known) r (given r is)),
+      refl,
+      (λ read. read_later _ _ c.args.self.now.manifest c.args.self.now.objects.now grows read),
     )
 
 pub returns-clause-walked : goal.returns-clause-walked
-returns-clause-walked g c = given_same (top_among c.args.self.now.manifest.tops) IsFormed _ _ _ _ _ c.announce_object.ensures.used
+returns-clause-walked g c = given_same (top_among c.args.self.now.manifest.tops) _ _ _ _ _ _ c.announce_object.ensures.used

@@ -1,5 +1,7 @@
 use Rattle.std.proofs.Common.{refl}
 use Rattle.std.proofs.lemmas.Result.{IfErr-weaker}
+use Rattle.osm_keys.specs.Manifests.{top_among}
+use Rattle.ql_eval.proofs.AbsenceLemmas.{never_sound, read_later}
 use Rattle.ql_eval.proofs.GivenLemmas.{given_later}
 use Rattle.ql_eval.proofs.KnownLemmas.{absent_later, remembers_later}
 use Rattle.ql_eval.proofs.RememberLemmas.{all_recalled_later}
@@ -18,7 +20,12 @@ returns-clause-later g c = (
   (λ p under known recalled. all_recalled_later p _ _ c.args.self.now.memo.now.remembered.items c.count_names.ensures.grows recalled),
   (λ r is. is),
   (λ given r is. given_later _ _ c.args.self.now.manifest c.args.self.now.objects.now c.args.self.now.objects.now c.count_names.ensures.grows (λ s o known. known) r (given r is)),
+  refl,
+  (λ read. read_later _ _ c.args.self.now.manifest c.args.self.now.objects.now c.count_names.ensures.grows read),
 )
 
 pub returns-clause-told : goal.returns-clause-told
 returns-clause-told g c = IfErr-weaker c.count_names.result _ _ (λ fault told absent kept. told) c.count_names.ensures.told
+
+pub returns-clause-walked : goal.returns-clause-walked
+returns-clause-walked g c = never_sound c.count_names.result (top_among c.args.self.now.manifest.tops) _ _ _ _ _ _ _ _ c.count_names.ensures.walked

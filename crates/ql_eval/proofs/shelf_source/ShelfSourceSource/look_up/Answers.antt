@@ -1,5 +1,7 @@
 use Rattle.std.proofs.Common.{refl}
 use Rattle.std.proofs.lemmas.Result.{IfErr-weaker}
+use Rattle.osm_keys.specs.Manifests.{top_among}
+use Rattle.ql_eval.proofs.AbsenceLemmas.{looked_sound}
 use Rattle.ql_eval.proofs.GivenLemmas.{given_later}
 use Rattle.ql_eval.proofs.RememberLemmas.{all_recalled_later}
 use Rattle.ql_eval.proofs.shelf_source.ShelfSourceSource.look_up.Goals as goal
@@ -17,7 +19,12 @@ returns-clause-later g c = (
   (λ p under known recalled. all_recalled_later p _ _ c.args.self.now.memo.now.remembered.items c.look_up.ensures.grows recalled),
   (λ r is. is),
   (λ given r is. given_later _ _ c.args.self.now.manifest c.args.self.now.objects.now c.look_up.new.objects c.look_up.ensures.grows c.look_up.ensures.keeps r (given r is)),
+  refl,
+  c.look_up.ensures.read,
 )
 
 pub returns-clause-told : goal.returns-clause-told
 returns-clause-told g c = IfErr-weaker c.look_up.result _ _ (λ fault told absent kept. told) c.look_up.ensures.told
+
+pub returns-clause-walked : goal.returns-clause-walked
+returns-clause-walked g c = looked_sound c.look_up.result (top_among c.args.self.now.manifest.tops) _ c.args.name _ _ _ _ _ _ _ _ c.look_up.ensures.walked

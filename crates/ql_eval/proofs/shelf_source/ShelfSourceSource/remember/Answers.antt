@@ -20,6 +20,8 @@ returns-clause-later g c = λ s later true_of.
       (λ r is. remembered_later before after c.remember.ensures.kept r (later.9 r is)),
       (λ given. given_one_more c.args.how c.args.set.value c.args.refs.value before after c.remember.ensures.added
           (IsGivenOrThere (g.S.Shelf.used c.args.self.now.shelf.now) c.args.self.now.manifest c.args.self.now.objects.now) c.requires (later.10 given)),
+      later.11,
+      later.12,
     )
 
 pub returns-clause-given : goal.returns-clause-given
