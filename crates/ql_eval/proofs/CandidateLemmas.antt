@@ -136,19 +136,19 @@ with_kinds_and_ids kinds ids names so r = (
   (λ (of_kind, of_ids). (adds_to_nothing refl so r).1 (r.kind, of_kind, (r.id, of_ids, refl))),
 )
 
-module _ (p : Publication) (kind : Option Kind) (ids : List ℤ) (names : List Ref) (are : (r : Ref) → Contains names r ↔ (Contains (kinds_of kind) r.kind × Contains ids r.id)) where
-  named_ids : (r : Ref) → Contains names r ↔ IsOfIds kind ids r
-  named_ids r = ((λ has. let so = (are r).0 has in ((kinds_have kind r).0 so.0, so.1)), (λ is. (are r).1 ((kinds_have kind r).1 is.0, is.1)))
+pub named_ids : (kind : Option Kind) (ids : List ℤ) (names : List Ref) → ((r : Ref) → Contains names r ↔ (Contains (kinds_of kind) r.kind × Contains ids r.id)) → (r : Ref) → Contains names r ↔ IsOfIds kind ids r
+named_ids kind ids names are r = ((λ has. let so = (are r).0 has in ((kinds_have kind r).0 so.0, so.1)), (λ is. (are r).1 ((kinds_have kind r).1 is.0, is.1)))
 
+module _ (p : Publication) (kind : Option Kind) (ids : List ℤ) (names : List Ref) (are : (r : Ref) → Contains names r ↔ (Contains (kinds_of kind) r.kind × Contains ids r.id)) where
   pub ids_need : (x : List ℕ) → NeededBy p (From names IsObjectAsk) x → NeededBy p (AskedByBase p.objects (λ name. []) kind (Some (Ids ids))) x
-  ids_need = needed_as (λ ask (r, among, e). (r, (named_ids r).0 among, e))
+  ids_need = needed_as (λ ask (r, among, e). (r, (named_ids kind ids names are r).0 among, e))
 
   pub needs_ids : (x : List ℕ) → NeededBy p (AskedByBase p.objects (λ name. []) kind (Some (Ids ids))) x → NeededBy p (From names IsObjectAsk) x
-  needs_ids = needed_as (λ ask (r, is, e). (r, (named_ids r).1 is, e))
+  needs_ids = needed_as (λ ask (r, is, e). (r, (named_ids kind ids names are r).1 is, e))
 
   pub ids_there : (refs : List Ref) → IsSetOf refs (From names (IsThereAs p.objects)) → IsSetOf refs (λ r. IsOfIds kind ids r × IsThere p.objects r)
   ids_there refs is = set_as refs (From names (IsThereAs p.objects)) (λ r. IsOfIds kind ids r × IsThere p.objects r)
       (λ r. (
-        (λ (name, among, (same, there)). subst (λ (s : Ref). IsOfIds kind ids s × IsThere p.objects s) same ((named_ids name).0 among, there)),
-        (λ (of_ids, there). (r, (named_ids r).1 of_ids, (refl, there))),
+        (λ (name, among, (same, there)). subst (λ (s : Ref). IsOfIds kind ids s × IsThere p.objects s) same ((named_ids kind ids names are name).0 among, there)),
+        (λ (of_ids, there). (r, (named_ids kind ids names are r).1 of_ids, (refl, there))),
       )) is

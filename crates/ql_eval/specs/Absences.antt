@@ -3,7 +3,7 @@
 -- Source: this project's evaluation, docs/FORMATS.md.
 use Rattle.std.specs.Int.{w64}
 use Rattle.std.specs.List.{Contains}
-use Rattle.std.specs.Prelude.{◌≡◌, ◌⊎◌, ℕ, ℤ, List, [], FitsSigned, ⊥}
+use Rattle.std.specs.Prelude.{◌≡◌, ◌⊎◌, ℕ, ℤ, List, [], FitsSigned}
 use Rattle.osm_model.specs.Elements.{Element}
 use Rattle.osm_model.specs.Membership.{BodyLists}
 use Rattle.osm_model.specs.declared.reference.Ref.{Ref}

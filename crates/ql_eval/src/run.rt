@@ -84,6 +84,7 @@ pub(crate) fn run<'q, W: Source>(
             Ok(())
         }
         Stmt::Union { parts, into } => {
+            note_all_asked(&*source, parts);
             let given = run_all(alloc, parts, sets, source, meter)?;
             let refs = RefSet::from_runs(given)?;
             sets.write(into.as_bytes(), refs)?;
@@ -140,6 +141,7 @@ fn run_all<'q, W: Source>(
 {
     let mut given = Vec::new(alloc);
     for part in parts {
+        note_asked(&*source, part);
         run(alloc, part, sets, source, meter)?;
         let written = written_by(part, sets);
         meter.charge_run(written)?;
@@ -147,3 +149,15 @@ fn run_all<'q, W: Source>(
     }
     Ok(given)
 }
+
+/// Does nothing at run time: at the recursive call after it, the prover finds what it requires.
+fn note_asked<W: Source>(_source: &W, _statement: &Stmt<'_>)
+    requires { (r : Ref) → HasIdOf (statement_of _statement.now) r → W.may_be_absent _source.now r }
+    ensures { (r : Ref) → HasIdOf (statement_of _statement.now) r → W.may_be_absent _source.now r }
+{}
+
+/// The same for several statements.
+fn note_all_asked<W: Source>(_source: &W, _statements: &[Stmt<'_>])
+    requires { (r : Ref) → HaveIdOf (statements_of _statements.now) r → W.may_be_absent _source.now r }
+    ensures { (r : Ref) → HaveIdOf (statements_of _statements.now) r → W.may_be_absent _source.now r }
+{}

@@ -46,13 +46,12 @@ impl<'s, 'q, 'a, S: Shelf<'a>> Source for ShelfSource<'s, 'q, 'a, S> {
     ghost use Rattle.std.specs.BTreeMap.{get};
     ghost use Rattle.osm_model.specs.Elements.{Element, ref_cmp};
     ghost use Rattle.osm_model.specs.declared.reference.Ref.{Ref};
-    ghost use Rattle.std.proofs.Common.{◌∙◌, ◌⊎◌, ap, inl, inr, subst, sym};
+    ghost use Rattle.std.proofs.Common.{◌∙◌, ◌⊎◌, inl, inr, subst, sym};
     ghost use Rattle.osm_keys.specs.declared.manifest.Manifest.{Manifest};
     ghost use Rattle.tree_node.specs.Shelves.{Stays};
     ghost use Rattle.tree_walk.specs.WalksGiven.{HasGiven};
     ghost use Rattle.osm_keys.specs.Manifests.{top_among};
-    ghost use Rattle.ql_eval.specs.Absences.{IsSound};
-    ghost use Rattle.ql_eval.proofs.AbsenceLemmas.{may_still, sound_later};
+    ghost use Rattle.ql_eval.specs.Absences.{HaveIdOf, IsSound};
     ghost use Rattle.ql_syntax.specs.StatementViews.{statements_of};
     ghost use Rattle.ql_syntax.specs.declared.statement.Stmt.{Stmt};
     ghost use Rattle.std.specs.Borrow.{Bor};
@@ -62,7 +61,7 @@ impl<'s, 'q, 'a, S: Shelf<'a>> Source for ShelfSource<'s, 'q, 'a, S> {
     ghost use Rattle.ql_eval.specs.internal.Remembering.{AreGiven, AreRecalled, IsRemembered, Recalls};
     ghost use Rattle.ql_eval.specs.internal.TrueFaults.{IsTrueUnder};
     ghost use Rattle.std.specs.List.{Contains};
-    ghost use Rattle.tree_walk.proofs.shared.WalksGivenLaws.{given_none, given_then};
+    ghost use Rattle.tree_walk.proofs.shared.WalksGivenLaws.{given_none, given_then, given_weaker};
 
     ghost holds = { λ o. S.holds o.shelf.now };
 
@@ -146,7 +145,10 @@ impl<'s, 'q, 'a, S: Shelf<'a>> Source for ShelfSource<'s, 'q, 'a, S> {
 
     ghost same_gave = { λ o n r later given. elim given [ inl entry ↦ inl (later.7 r entry) | inr kept ↦ inr (later.9 r kept) ] };
 
-    ghost still_may = { λ o n r later may. may_still (statements_of o.statements.now) (statements_of n.statements.now) o.objects.now n.objects.now (ap (λ (s : Bor (List Stmt)). statements_of s.now) later.11) later.5 r may };
+    ghost still_may = { λ o n r later may. elim may [
+      | inl asked ↦ inl (subst (λ (s : Bor (List Stmt)). HaveIdOf (statements_of s.now) r) later.11 asked)
+      | inr listed ↦ inr (listed.0, listed.1, later.5 listed.0 (Some listed.1) listed.2, listed.3)
+    ] };
 
     ghost listed_may = { λ o name r object known lists. inr (name, object, known, lists) };
 
@@ -163,8 +165,14 @@ impl<'s, 'q, 'a, S: Shelf<'a>> Source for ShelfSource<'s, 'q, 'a, S> {
     ghost no_walk = { λ o. given_none (top_among o.manifest.tops) _ (S.holds o.shelf.now) (S.used o.shelf.now) o.tally.calls o.tally.fetches };
 
     ghost more_walks = { λ o n m first second one two. given_then (top_among m.manifest.tops) _ _ _ _ _ _ _ _ _ _ _ _ second.2
-        (sound_later (top_among m.manifest.tops) _ _ _ _ _ _ _ _ _
-        (λ r may. may_still (statements_of n.statements.now) (statements_of m.statements.now) n.objects.now m.objects.now (ap (λ (s : Bor (List Stmt)). statements_of s.now) second.11) second.5 r may)
+        (given_weaker (top_among m.manifest.tops) _ _ _ _ _ _ _ _ _
+        (λ walk sound. record {
+          formed = sound.formed;
+          absent = λ r fits tree range none. elim (sound.absent r fits tree range none) [
+            | inl asked ↦ inl (subst (λ (s : Bor (List Stmt)). HaveIdOf (statements_of s.now) r) second.11 asked)
+            | inr listed ↦ inr (listed.0, listed.1, second.5 listed.0 (Some listed.1) listed.2, listed.3)
+          ];
+        })
         (subst (λ (found : Manifest). HasGiven (top_among found.tops) (IsSound (MayBeAbsentNow (statements_of n.statements.now) n.objects.now))
         (record { held = S.holds n.shelf.now; before = S.used o.shelf.now; after = S.used n.shelf.now }) o.tally.calls n.tally.calls o.tally.fetches n.tally.fetches) second.1 one)) two };
 

@@ -7,6 +7,7 @@ use Rattle.ql_eval.proofs.WritingLemmas.{written_none, written_then}
 use Rattle.ql_eval.proofs.GivenLemmas.{nothing_given}
 use Rattle.ql_eval.specs.internal.Metering.{IsGoing}
 use Rattle.ql_eval.proofs.MeterLemmas.{clear_before, found_well, going_at, going_bounded, going_next, going_start, going_stops, gone_all}
+use Rattle.ql_eval.proofs.AbsenceLemmas.{part_asked}
 use Rattle.ql_eval.proofs.answering.answer_all.Goals as goal
 
 pub returns-in_err-answer_statement-clause-wrote : goal.returns-in_err-answer_statement-clause-wrote
@@ -113,3 +114,7 @@ returns-clause-spent g c = λ p is under query clear.
 
 pub returns-in_err-charge_run-clause-wrote : goal.returns-in_err-charge_run-clause-wrote
 returns-in_err-charge_run-clause-wrote g c = (c.loop-statement.invariant.wrote.0 ++ c.answer_statement.ensures.wrote.0, written_then c.loop-statement.invariant.wrote.1 c.answer_statement.ensures.wrote.1)
+
+pub answer_statement-requires-clause-asked : goal.answer_statement-requires-clause-asked
+answer_statement-requires-clause-asked g c = λ r of.
+    g.met.W.Source.still_may _ _ r c.loop-statement.invariant.later (c.requires r (part_asked c.args.statements.now c.loop-statement.statement-index c.statement-item.result r c.loop-statement-test.true c.statement-item.is of))

@@ -64,10 +64,10 @@ returns-in_default g c = record {
 }
 
 pub print-requires : goal.print-requires
-print-requires g c = subst (λ (l : List Ref). AllGiven (g.W.Source.gave c.args.source.now) l) (sym c.get.ensures) (c.requires c.as_bytes.result.now)
+print-requires g c = subst (λ (l : List Ref). AllGiven (g.W.Source.gave c.args.source.now) l) (sym c.get.ensures) (c.requires.named c.as_bytes.result.now)
 
 pub returns-in-Print-clause-named : goal.returns-in-Print-clause-named
-returns-in-Print-clause-named g c = always_ok c.print.result (sets_later (lists_of c.args.sets.now.named.items) (λ r. g.met.W.Source.same_gave _ _ r c.print.ensures.later) c.requires)
+returns-in-Print-clause-named g c = always_ok c.print.result (sets_later (lists_of c.args.sets.now.named.items) (λ r. g.met.W.Source.same_gave _ _ r c.print.ensures.later) c.requires.named)
 
 pub returns-in-Print-clause-bounded : goal.returns-in-Print-clause-bounded
 returns-in-Print-clause-bounded g c = λ p is under there top clear.

@@ -13,6 +13,8 @@ use Rattle.ref_sets.proofs.shared.Results.{on_ok_as}
 use Rattle.ql_eval.specs.Work.{WorkOfBase}
 use Rattle.ql_eval.specs.internal.Metering.{IsBounded, IsSpent}
 use Rattle.ql_eval.proofs.MeterLemmas.{nothing_spent, still}
+use Rattle.std.specs.Option.{option_to_list}
+use Rattle.ql_eval.specs.Absences.{IsAskedById}
 use Rattle.ql_eval.proofs.candidates.find_candidates.Goals as goal
 
 pub returns-in-None-clause-answer : goal.returns-in-None-clause-answer
@@ -47,3 +49,6 @@ pub returns-in-Some-clause-spent : goal.returns-in-Some-clause-spent
 returns-in-Some-clause-spent g c = on_ok_as c.kept_by.result (λ spent p is under there lawful clear.
     subst (λ (b : Option (Bor Filter)). IsSpent (WorkOfBase p.objects (option_map (λ f. filter_of f.now) b)) c.args.meter.now.spent c.kept_by.new.meter.spent) (sym c.in-Some.is)
     (spent p is under there (subst (λ (b : Option (Bor Filter)). ForSome (option_map (λ f. filter_of f.now) b) (Allows c.args.pick)) c.in-Some.is lawful _ refl) clear)) c.kept_by.ensures.spent
+
+pub kept_by-requires-clause-asked : goal.kept_by-requires-clause-asked
+kept_by-requires-clause-asked g c = λ r of. c.requires.asked r (subst (λ (b : Option (Bor Filter)). IsAskedById c.args.pick (option_to_list (option_map (λ f. filter_of f.now) b)) r) (sym c.in-Some.is) of)

@@ -21,6 +21,7 @@ use Rattle.ref_sets.proofs.shared.Results.{on_ok_as}
 use Rattle.ql_eval.specs.Work.{WorkOfBase}
 use Rattle.ql_eval.specs.internal.Metering.{IsBounded, IsSpent}
 use Rattle.ql_eval.proofs.MeterLemmas.{nothing_spent, still}
+use Rattle.ql_eval.proofs.AbsenceLemmas.{ids_asked}
 use Rattle.ql_eval.proofs.candidates.kept_by.Goals as goal
 
 pub returns-in-Ids-clause-answer : goal.returns-in-Ids-clause-answer
@@ -128,3 +129,6 @@ returns-in-HasKey-clause-spent g c = on_ok_as c.with_key.result (λ spent p is u
     let filter : filter_of c.args.filter.now ≡ HasKey key = ap filter_of c.in-HasKey.is ∙ ap (λ (k : List ℕ). HasKey k) (sym c.as_bytes-in-HasKey.ensures) in
     subst (λ (f : Filter). IsSpent (WorkOfBase p.objects (Some f)) c.args.meter.now.spent c.with_key.new.meter.spent) (sym filter)
     (spent p is under (subst (λ (f : Filter). Allows c.args.pick f) filter allowed) clear)) c.with_key.ensures.spent
+
+pub with_ids-requires : goal.with_ids-requires
+with_ids-requires g c = λ r of. c.requires.asked r (ids_asked c.args.pick (filter_of c.args.filter.now) c.kind_of-kind.result c.as_slice.result.now r c.kind_of-kind.ensures (ap filter_of c.in-Ids.is ∙ ap (λ (l : List ℤ). Ids l) (sym c.as_slice.ensures)) of)

@@ -8,8 +8,10 @@ use Rattle.ql_meaning.specs.Meanings.{Means_by}
 use Rattle.ref_sets.specs.NamedSets.{nothing_named}
 use Rattle.ql_eval.specs.Asks.{AskedByAll}
 use Rattle.osm_keys.specs.Manifests.{top_among}
+use Rattle.tree_walk.specs.WalksGiven.{HasGiven}
+use Rattle.ql_eval.specs.Absences.{IsSound, MayBeAbsent}
+use Rattle.ql_eval.specs.Openings.{nodes_after}
 use Rattle.tree_walk.proofs.shared.WalksGivenLaws.{given_from, given_walked}
-use Rattle.ql_eval.specs.Forms.{HaveForm}
 use Rattle.ql_eval.specs.Questions.{NeededBy}
 use Rattle.ql_eval.specs.TrueFaults.{IsTrueFault}
 use Rattle.ql_eval.proofs.Openings.{opening_cause}
@@ -48,7 +50,10 @@ returns-in-Ok-clause-walks g c = (
   c.in_ok-manifest.manifest,
   (c.run_within.ensures.stays _).1 c.in_ok-manifest.ensures.held.0,
   c.in_ok-manifest.ensures.held.1,
-  given_from (top_among c.in_ok-manifest.manifest.tops) HaveForm _ _ _ _ _ _ _ _ _ c.in_ok-manifest.ensures.grown c.in-Ok.ensures.walked,
+  subst
+      (λ (ss : List Stmt). HasGiven (top_among c.in_ok-manifest.manifest.tops) (IsSound (MayBeAbsent (statements_of ss) (g.S.Shelf.used c.run_within.new.shelf) c.in_ok-manifest.manifest)) (nodes_after c.in_ok-manifest.manifest g.S.Shelf.holds g.S.Shelf.used c.args.shelf.now c.run_within.new.shelf) 0 c.in-Ok.report.ranges 0 c.in-Ok.report.fetched)
+      c.stmts-statements.ensures.statements
+      (given_from (top_among c.in_ok-manifest.manifest.tops) _ _ _ _ _ _ _ _ _ _ c.in_ok-manifest.ensures.grown c.in-Ok.ensures.walked),
 )
 
 pub returns-in-Ok-clause-report : goal.returns-in-Ok-clause-report
@@ -56,8 +61,8 @@ returns-in-Ok-clause-report g c = (
   c.in_ok-manifest.manifest,
   (c.run_within.ensures.stays _).1 c.in_ok-manifest.ensures.held.0,
   c.in_ok-manifest.ensures.held.1,
-  given_walked (top_among c.in_ok-manifest.manifest.tops) HaveForm _ _ _ _ _ _ _
-      (given_from (top_among c.in_ok-manifest.manifest.tops) HaveForm _ _ _ _ _ _ _ _ _ c.in_ok-manifest.ensures.grown c.in-Ok.ensures.walked),
+  given_walked (top_among c.in_ok-manifest.manifest.tops) _ _ _ _ _ _ _ _
+      (given_from (top_among c.in_ok-manifest.manifest.tops) _ _ _ _ _ _ _ _ _ _ c.in_ok-manifest.ensures.grown c.in-Ok.ensures.walked),
 )
 
 pub returns-in_err-manifest-clause-answer : goal.returns-in_err-manifest-clause-answer

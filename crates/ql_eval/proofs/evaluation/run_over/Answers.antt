@@ -1,4 +1,12 @@
-use Rattle.std.proofs.Common.{ℕ, List, rules, subst}
+use Rattle.std.proofs.Common.{ℕ, List, rules, subst, sym}
+use Rattle.std.specs.Borrow.{Bor}
+use Rattle.std.specs.Prelude.{OnOk}
+use Rattle.osm_keys.specs.Manifests.{top_among}
+use Rattle.osm_keys.specs.declared.manifest.Manifest.{Manifest}
+use Rattle.ql_syntax.specs.declared.statement.Stmt.{Stmt}
+use Rattle.tree_walk.specs.WalksGiven.{HasGiven}
+use Rattle.ql_eval.specs.Absences.{IsSound, MayBeAbsent}
+use Rattle.ql_eval.proofs.AbsenceLemmas.{none_read, sound_end}
 use Rattle.tree_node.specs.Outcomes.{Outcome}
 use Rattle.tree_node.proofs.shared.OutcomeLaws.{uses}
 use Rattle.ql_syntax.specs.StatementViews.{statements_of}
@@ -32,3 +40,20 @@ pub returns-clause-spent : goal.returns-clause-spent
 returns-clause-spent g c = on_ok_as c.answer_all-ran.result (λ spent p is under query clear.
     spent p is (under, none_remembered p _ c.new-objects.result c.new-objects.ensures.empty, none_recalled p _ c.new-memo.result.remembered.items c.new-memo.ensures) query
     (subst (λ s. HasNoClash p (g.S.Shelf.used s)) (search rules) clear)) c.answer_all-ran.ensures.spent
+
+pub returns-clause-walked : goal.returns-clause-walked
+returns-clause-walked g c =
+    let source = c.answer_all-ran.new.source in
+    let later = c.answer_all-ran.ensures.later in
+    let ended = sound_end c.answer_all-ran.result (top_among source.manifest.tops) (statements_of source.statements.now) source.manifest source.objects.now _ _ _ _ _ _ _ (later.12 (none_read _ c.args.manifest c.new-objects.result c.new-objects.ensures.empty)) c.answer_all-ran.ensures.walked in
+    let here =
+    subst
+    (λ (m : Manifest). OnOk c.answer_all-ran.result (HasGiven (top_among m.tops) (IsSound (MayBeAbsent (statements_of source.statements.now) (g.S.Shelf.used source.shelf.now) m)) (uses (g.S.Shelf.holds source.shelf.now) (g.S.Shelf.used c.args.shelf.now) (g.S.Shelf.used source.shelf.now)) 0 source.tally.calls 0 source.tally.fetches))
+    (sym later.1) ended in
+    let said =
+    subst
+    (λ (ss : Bor (List Stmt)). OnOk c.answer_all-ran.result (HasGiven (top_among c.args.manifest.tops) (IsSound (MayBeAbsent (statements_of ss.now) (g.S.Shelf.used source.shelf.now) c.args.manifest)) (uses (g.S.Shelf.holds source.shelf.now) (g.S.Shelf.used c.args.shelf.now) (g.S.Shelf.used source.shelf.now)) 0 source.tally.calls 0 source.tally.fetches))
+    (sym later.11) here in
+    subst
+    (λ s. OnOk c.answer_all-ran.result (HasGiven (top_among c.args.manifest.tops) (IsSound (MayBeAbsent (statements_of c.args.statements.now) (g.S.Shelf.used s) c.args.manifest)) (uses (g.S.Shelf.holds s) (g.S.Shelf.used c.args.shelf.now) (g.S.Shelf.used s)) 0 source.tally.calls 0 source.tally.fetches))
+    (search rules) said

@@ -20,4 +20,4 @@ returns-in-None-clause-answer g c = λ p is under there.
 
 pub returns-in-None-clause-told : goal.returns-in-None-clause-told
 returns-in-None-clause-told g c =
-    g.met.W.Source.not_there _ c.args.name (known_is_none (g.W.Source.knows c.look_up.new.self) c.args.name c.known.result c.in_ok-look_up.ensures.known c.known.ensures c.in-None.is) (g.met.W.Source.same_gave _ _ c.args.name c.look_up.ensures.later c.requires)
+    g.met.W.Source.not_there _ c.args.name (known_is_none (g.W.Source.knows c.look_up.new.self) c.args.name c.known.result c.in_ok-look_up.ensures.known c.known.ensures c.in-None.is) (g.met.W.Source.same_gave _ _ c.args.name c.look_up.ensures.later c.requires.gave)

@@ -20,8 +20,8 @@ returns-else-is_some-clause-answer g c = λ p is under.
 pub returns-in_ok-push-clause-named : goal.returns-in_ok-push-clause-named
 returns-in_ok-push-clause-named g c =
     let later = λ (r : Ref). g.met.W.Source.same_gave _ _ r c.look_up.ensures.later in
-    all_appended c.args.there.now.items (c.args.name ∷ []) c.push.new.self.items c.in_ok-push.ensures.items (all_later c.args.there.now.items later c.requires)
+    all_appended c.args.there.now.items (c.args.name ∷ []) c.push.new.self.items c.in_ok-push.ensures.items (all_later c.args.there.now.items later c.requires.named)
     (one_given _ c.args.name (found_is_given (g.W.Source.knows c.look_up.new.self) (g.W.Source.gave c.look_up.new.self) c.args.name c.known.result c.in_ok-look_up.ensures.known c.known.ensures (sym c.is_some.ensures ∙ c.if-is_some.true) (λ o. g.met.W.Source.found_gave _ c.args.name o)))
 
 pub returns-else-is_some-clause-named : goal.returns-else-is_some-clause-named
-returns-else-is_some-clause-named g c = all_later c.args.there.now.items (λ r. g.met.W.Source.same_gave _ _ r c.look_up.ensures.later) c.requires
+returns-else-is_some-clause-named g c = all_later c.args.there.now.items (λ r. g.met.W.Source.same_gave _ _ r c.look_up.ensures.later) c.requires.named

@@ -26,3 +26,6 @@ returns-clause-answer g c = λ p is under there.
     (λ so b set. below_there p names first last some (listed_in so) b set)
     (c.in_ok-listed.ensures.answer p is under there)
     (λ so. c.those_there.ensures.answer p is (g.met.W.Source.same_under _ _ p c.in_ok-listed.ensures.later under))
+
+pub those_there-requires : goal.those_there-requires
+those_there-requires g c = λ r has. c.in_ok-listed.ensures.listed r ((c.of_kinds.ensures.members r).0 has).0

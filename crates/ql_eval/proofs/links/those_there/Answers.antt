@@ -1,4 +1,5 @@
 use Rattle.std.proofs.lemmas.List.{get_or_default}
+use Rattle.std.proofs.lemmas.List.Elements.{Contains-get_or}
 use Rattle.ql_eval.specs.internal.Links.{IsObjectAsk, IsThereAs}
 use Rattle.ql_eval.proofs.LinkLemmas.{set_of_added}
 use Rattle.ql_eval.proofs.LoopLemmas.{gone_all, gone_next, gone_same, gone_stops}
@@ -36,3 +37,6 @@ loop-name-init g c = record {
 
 pub returns-clause-named : goal.returns-clause-named
 returns-clause-named g c = sorted_given c.loop-name.there.items c.from_refs.result c.from_refs.ensures c.loop-name.invariant.named
+
+pub add_there-requires-clause-may : goal.add_there-requires-clause-may
+add_there-requires-clause-may g c = g.met.W.Source.still_may _ _ _ c.loop-name.invariant.later (c.requires _ (Contains-get_or c.args.names.now c.loop-name.name-index _ c.loop-name-test.true))

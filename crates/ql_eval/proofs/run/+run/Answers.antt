@@ -23,6 +23,9 @@ use Rattle.ql_eval.specs.internal.Giving.{AllGiven}
 use Rattle.ql_eval.specs.Work.{WorkOf, WorkOfAll, WorkOfSelect, step_cost}
 use Rattle.ql_eval.specs.internal.Metering.{IsBounded, IsCounted, IsSpent}
 use Rattle.ql_eval.proofs.MeterLemmas.{bounded_as, clear_before, found_well, going_at, going_bounded, going_next, going_stops, gone_all, nothing_spent, row_bounded, row_spent, row_stops, spent_as, steps_bounded, steps_spent, still}
+use Rattle.ql_syntax.specs.Statements.{Statement}
+use Rattle.ql_eval.specs.Absences.{HasIdOf, IsAskedById}
+use Rattle.ql_eval.proofs.AbsenceLemmas.{part_asked, union_asked}
 use Rattle.ql_eval.proofs.run.+run.Goals as goal
 
 pub run-returns-in_err-refs-in-Select-clause-answer : goal.run-returns-in_err-refs-in-Select-clause-answer
@@ -85,9 +88,9 @@ pub run-returns-in_err-given-in-Union-clause-answer : goal.run-returns-in_err-gi
 run-returns-in_err-given-in-Union-clause-answer g t c = λ p is under there can.
     let env = lists_of c.args.sets.now.named.items in
     let same = ap statement_of c.in-Union.is ∙ union_is c.in-Union.parts c.in-Union.into in
-    let parts = subst (λ (ps : List Stmt). CanRunAll (statements_of ps)) (sym c.deref-in-Union.ensures.value) (can_run_as same can) in
+    let parts = subst (λ (ps : List Stmt). CanRunAll (statements_of ps)) (sym c.deref-in-Union-2.ensures.value) (can_run_as same can) in
     outcome_stops _ c.from_residual-in_err-given-in-Union.ensures.1 refl (needs_as same p env)
-    (subst (λ (ps : List Stmt). RanAllWell p (statements_of ps) env (lists_of c.run_all.new.sets.named.items) (uses (g.W.Source.holds c.run_all.new.source) (g.W.Source.used c.args.source.now) (g.W.Source.used c.run_all.new.source)) (Err c.in_err-given-in-Union.field-0.0)) c.deref-in-Union.ensures.value
+    (subst (λ (ps : List Stmt). RanAllWell p (statements_of ps) env (lists_of c.run_all.new.sets.named.items) (uses (g.W.Source.holds c.run_all.new.source) (g.W.Source.used c.args.source.now) (g.W.Source.used c.run_all.new.source)) (Err c.in_err-given-in-Union.field-0.0)) c.deref-in-Union-2.ensures.value
     (c.in_err-given-in-Union.ensures.answer p is under there parts))
 
 pub run-returns-in_ok-write-in-Union-clause-answer : goal.run-returns-in_ok-write-in-Union-clause-answer
@@ -95,12 +98,12 @@ run-returns-in_ok-write-in-Union-clause-answer g t c = λ p is under there can.
     let env = lists_of c.args.sets.now.named.items in
     let mid = lists_of c.run_all.new.sets.named.items in
     let same = ap statement_of c.in-Union.is ∙ union_is c.in-Union.parts c.in-Union.into in
-    let parts = subst (λ (ps : List Stmt). CanRunAll (statements_of ps)) (sym c.deref-in-Union.ensures.value) (can_run_as same can) in
+    let parts = subst (λ (ps : List Stmt). CanRunAll (statements_of ps)) (sym c.deref-in-Union-2.ensures.value) (can_run_as same can) in
     let given = c.in_ok-given-in-Union.given in
     let refs = c.in_ok-refs-in-Union.refs in
     outcome_as (needs_as same p env) (λ so. as_needs same p env)
     (λ so. after_as same p.objects _ _ (mid, given.items, so, (refs, c.in_ok-refs-in-Union.ensures, c.in_ok-write-in-Union.ensures ∙ ap (λ (name : List ℕ). put name refs mid) c.as_bytes-in-Union.ensures)))
-    (subst (λ (ps : List Stmt). RanAllWell p (statements_of ps) env mid (uses (g.W.Source.holds c.run_all.new.source) (g.W.Source.used c.args.source.now) (g.W.Source.used c.run_all.new.source)) (Ok given)) c.deref-in-Union.ensures.value
+    (subst (λ (ps : List Stmt). RanAllWell p (statements_of ps) env mid (uses (g.W.Source.holds c.run_all.new.source) (g.W.Source.used c.args.source.now) (g.W.Source.used c.run_all.new.source)) (Ok given)) c.deref-in-Union-2.ensures.value
     (c.in_ok-given-in-Union.ensures.answer p is under there parts))
 
 pub run-returns-in_err-run-in-Minus-2-clause-answer : goal.run-returns-in_err-run-in-Minus-2-clause-answer
@@ -204,16 +207,16 @@ run_all-loop-part-preserved g t c = record {
 }
 
 pub run-returns-in_ok-write-in-Select-clause-named : goal.run-returns-in_ok-write-in-Select-clause-named
-run-returns-in_ok-write-in-Select-clause-named g t c = put_given _ c.in_ok-refs-in-Select.refs (lists_of c.args.sets.now.named.items) _ c.in_ok-write-in-Select.ensures (c.in_ok-refs-in-Select.ensures.named) (sets_later (lists_of c.args.sets.now.named.items) (λ r. g.met.W.Source.same_gave _ _ r c.select.ensures.later) c.requires)
+run-returns-in_ok-write-in-Select-clause-named g t c = put_given _ c.in_ok-refs-in-Select.refs (lists_of c.args.sets.now.named.items) _ c.in_ok-write-in-Select.ensures (c.in_ok-refs-in-Select.ensures.named) (sets_later (lists_of c.args.sets.now.named.items) (λ r. g.met.W.Source.same_gave _ _ r c.select.ensures.later) c.requires.named)
 
 pub run-recurse_once-requires : goal.run-recurse_once-requires
-run-recurse_once-requires g t c = subst (λ (l : List Ref). AllGiven (g.W.Source.gave c.args.source.now) l) (sym c.in_ok-set-in-Recurse.ensures) (c.requires c.as_bytes-in-Recurse.result.now)
+run-recurse_once-requires g t c = subst (λ (l : List Ref). AllGiven (g.W.Source.gave c.args.source.now) l) (sym c.in_ok-set-in-Recurse.ensures) (c.requires.named c.as_bytes-in-Recurse.result.now)
 
 pub run-returns-in_ok-write_shared-in-Recurse-clause-named : goal.run-returns-in_ok-write_shared-in-Recurse-clause-named
-run-returns-in_ok-write_shared-in-Recurse-clause-named g t c = put_given _ c.in_ok-refs-in-Recurse.refs.value (lists_of c.args.sets.now.named.items) _ c.in_ok-write_shared-in-Recurse.ensures (c.in_ok-refs-in-Recurse.ensures.named) (sets_later (lists_of c.args.sets.now.named.items) (λ r. g.met.W.Source.same_gave _ _ r c.recurse_once.ensures.later) c.requires)
+run-returns-in_ok-write_shared-in-Recurse-clause-named g t c = put_given _ c.in_ok-refs-in-Recurse.refs.value (lists_of c.args.sets.now.named.items) _ c.in_ok-write_shared-in-Recurse.ensures (c.in_ok-refs-in-Recurse.ensures.named) (sets_later (lists_of c.args.sets.now.named.items) (λ r. g.met.W.Source.same_gave _ _ r c.recurse_once.ensures.later) c.requires.named)
 
 pub run-returns-in_ok-write_shared-in-Item-clause-named : goal.run-returns-in_ok-write_shared-in-Item-clause-named
-run-returns-in_ok-write_shared-in-Item-clause-named g t c = put_given _ c.in_ok-refs-in-Item.refs.value (lists_of c.args.sets.now.named.items) _ c.in_ok-write_shared-in-Item.ensures (subst (λ (l : List Ref). AllGiven (g.W.Source.gave c.args.source.now) l) (sym c.in_ok-refs-in-Item.ensures) (c.requires c.as_bytes-in-Item.result.now)) (c.requires)
+run-returns-in_ok-write_shared-in-Item-clause-named g t c = put_given _ c.in_ok-refs-in-Item.refs.value (lists_of c.args.sets.now.named.items) _ c.in_ok-write_shared-in-Item.ensures (subst (λ (l : List Ref). AllGiven (g.W.Source.gave c.args.source.now) l) (sym c.in_ok-refs-in-Item.ensures) (c.requires.named c.as_bytes-in-Item.result.now)) (c.requires.named)
 
 pub run-returns-in_ok-write-in-Union-clause-named : goal.run-returns-in_ok-write-in-Union-clause-named
 run-returns-in_ok-write-in-Union-clause-named g t c = put_given _ c.in_ok-refs-in-Union.refs (lists_of c.run_all.new.sets.named.items) _ c.in_ok-write-in-Union.ensures (sorted_given c.in_ok-given-in-Union.given.items c.in_ok-refs-in-Union.refs c.in_ok-refs-in-Union.ensures c.in_ok-given-in-Union.ensures.named) (c.in_ok-given-in-Union.ensures.sets_named)
@@ -319,41 +322,41 @@ pub run-returns-in_err-given-in-Union-clause-bounded : goal.run-returns-in_err-g
 run-returns-in_err-given-in-Union-clause-bounded g t c = λ tell p is under there can clear.
     let env = lists_of c.args.sets.now.named.items in
     let same = ap statement_of c.in-Union.is ∙ union_is c.in-Union.parts c.in-Union.into in
-    let parts = subst (λ (ps : List Stmt). CanRunAll (statements_of ps)) (sym c.deref-in-Union.ensures.value) (can_run_as same can) in
+    let parts = subst (λ (ps : List Stmt). CanRunAll (statements_of ps)) (sym c.deref-in-Union-2.ensures.value) (can_run_as same can) in
     bounded_as same tell p env _ _
-    (subst (λ (ps : List Stmt). IsBounded (WorkOfAll tell p (statements_of ps) env) c.args.meter.now.spent c.run_all.new.meter.spent) c.deref-in-Union.ensures.value (c.run_all.ensures.bounded tell p is under there parts clear))
+    (subst (λ (ps : List Stmt). IsBounded (WorkOfAll tell p (statements_of ps) env) c.args.meter.now.spent c.run_all.new.meter.spent) c.deref-in-Union-2.ensures.value (c.run_all.ensures.bounded tell p is under there parts clear))
 
 pub run-returns-in_err-refs-in-Union-clause-bounded : goal.run-returns-in_err-refs-in-Union-clause-bounded
 run-returns-in_err-refs-in-Union-clause-bounded g t c = λ tell p is under there can clear.
     let env = lists_of c.args.sets.now.named.items in
     let same = ap statement_of c.in-Union.is ∙ union_is c.in-Union.parts c.in-Union.into in
-    let parts = subst (λ (ps : List Stmt). CanRunAll (statements_of ps)) (sym c.deref-in-Union.ensures.value) (can_run_as same can) in
+    let parts = subst (λ (ps : List Stmt). CanRunAll (statements_of ps)) (sym c.deref-in-Union-2.ensures.value) (can_run_as same can) in
     bounded_as same tell p env _ _
-    (subst (λ (ps : List Stmt). IsBounded (WorkOfAll tell p (statements_of ps) env) c.args.meter.now.spent c.run_all.new.meter.spent) c.deref-in-Union.ensures.value (c.run_all.ensures.bounded tell p is under there parts clear))
+    (subst (λ (ps : List Stmt). IsBounded (WorkOfAll tell p (statements_of ps) env) c.args.meter.now.spent c.run_all.new.meter.spent) c.deref-in-Union-2.ensures.value (c.run_all.ensures.bounded tell p is under there parts clear))
 
 pub run-returns-in_err-write-in-Union-clause-bounded : goal.run-returns-in_err-write-in-Union-clause-bounded
 run-returns-in_err-write-in-Union-clause-bounded g t c = λ tell p is under there can clear.
     let env = lists_of c.args.sets.now.named.items in
     let same = ap statement_of c.in-Union.is ∙ union_is c.in-Union.parts c.in-Union.into in
-    let parts = subst (λ (ps : List Stmt). CanRunAll (statements_of ps)) (sym c.deref-in-Union.ensures.value) (can_run_as same can) in
+    let parts = subst (λ (ps : List Stmt). CanRunAll (statements_of ps)) (sym c.deref-in-Union-2.ensures.value) (can_run_as same can) in
     bounded_as same tell p env _ _
-    (subst (λ (ps : List Stmt). IsBounded (WorkOfAll tell p (statements_of ps) env) c.args.meter.now.spent c.run_all.new.meter.spent) c.deref-in-Union.ensures.value (c.run_all.ensures.bounded tell p is under there parts clear))
+    (subst (λ (ps : List Stmt). IsBounded (WorkOfAll tell p (statements_of ps) env) c.args.meter.now.spent c.run_all.new.meter.spent) c.deref-in-Union-2.ensures.value (c.run_all.ensures.bounded tell p is under there parts clear))
 
 pub run-returns-in_ok-write-in-Union-clause-bounded : goal.run-returns-in_ok-write-in-Union-clause-bounded
 run-returns-in_ok-write-in-Union-clause-bounded g t c = λ tell p is under there can clear.
     let env = lists_of c.args.sets.now.named.items in
     let same = ap statement_of c.in-Union.is ∙ union_is c.in-Union.parts c.in-Union.into in
-    let parts = subst (λ (ps : List Stmt). CanRunAll (statements_of ps)) (sym c.deref-in-Union.ensures.value) (can_run_as same can) in
+    let parts = subst (λ (ps : List Stmt). CanRunAll (statements_of ps)) (sym c.deref-in-Union-2.ensures.value) (can_run_as same can) in
     bounded_as same tell p env _ _
-    (subst (λ (ps : List Stmt). IsBounded (WorkOfAll tell p (statements_of ps) env) c.args.meter.now.spent c.run_all.new.meter.spent) c.deref-in-Union.ensures.value (c.run_all.ensures.bounded tell p is under there parts clear))
+    (subst (λ (ps : List Stmt). IsBounded (WorkOfAll tell p (statements_of ps) env) c.args.meter.now.spent c.run_all.new.meter.spent) c.deref-in-Union-2.ensures.value (c.run_all.ensures.bounded tell p is under there parts clear))
 
 pub run-returns-in_ok-write-in-Union-clause-spent : goal.run-returns-in_ok-write-in-Union-clause-spent
 run-returns-in_ok-write-in-Union-clause-spent g t c = λ tell p is under there can clear.
     let env = lists_of c.args.sets.now.named.items in
     let same = ap statement_of c.in-Union.is ∙ union_is c.in-Union.parts c.in-Union.into in
-    let parts = subst (λ (ps : List Stmt). CanRunAll (statements_of ps)) (sym c.deref-in-Union.ensures.value) (can_run_as same can) in
+    let parts = subst (λ (ps : List Stmt). CanRunAll (statements_of ps)) (sym c.deref-in-Union-2.ensures.value) (can_run_as same can) in
     spent_as same tell p env _ _
-    (subst (λ (ps : List Stmt). IsSpent (WorkOfAll tell p (statements_of ps) env) c.args.meter.now.spent c.run_all.new.meter.spent) c.deref-in-Union.ensures.value (c.in_ok-given-in-Union.ensures.spent tell p is under there parts clear))
+    (subst (λ (ps : List Stmt). IsSpent (WorkOfAll tell p (statements_of ps) env) c.args.meter.now.spent c.run_all.new.meter.spent) c.deref-in-Union-2.ensures.value (c.in_ok-given-in-Union.ensures.spent tell p is under there parts clear))
 
 pub run-returns-in_err-run-in-Minus-clause-bounded : goal.run-returns-in_err-run-in-Minus-clause-bounded
 run-returns-in_err-run-in-Minus-clause-bounded g t c = λ tell p is under there can clear.
@@ -611,3 +614,14 @@ run_all-returns-clause-answer g t c = λ p is under there can.
     (λ so x needs. subst (λ (ps : List Stmt). NeededBy p (AskedByAll p (statements_of ps) env) x) (sym all) needs)
     (λ so. subst (λ (ps : List Stmt). AfterAll p.objects (statements_of ps) env (lists_of c.loop-part.sets.named.items) c.loop-part.given.items) all so)
     (c.loop-part.invariant.answer p is under there can)
+
+pub run-select-requires-clause-asked : goal.run-select-requires-clause-asked
+run-select-requires-clause-asked g t c = λ r of.
+    c.requires.asked r (subst (λ (s : Statement). HasIdOf s r) (sym (ap statement_of c.in-Select.is)) (subst (λ (fs : List Filter). IsAskedById c.in-Select.kind (filters_of fs) r) c.deref.ensures.value of))
+
+pub run-note_all_asked-requires : goal.run-note_all_asked-requires
+run-note_all_asked-requires g t c = λ r of. c.requires.asked r (union_asked c.args.statement.now c.in-Union.parts c.in-Union.into c.deref-in-Union.result.now r c.in-Union.is c.deref-in-Union.ensures.value of)
+
+pub run_all-note_asked-requires : goal.run_all-note_asked-requires
+run_all-note_asked-requires g t c = λ r of.
+    g.met.W.Source.still_may _ _ r c.loop-part.invariant.later (c.requires.asked r (part_asked c.args.parts.now c.loop-part.part-index c.part-item.result r c.loop-part-test.true c.part-item.is of))

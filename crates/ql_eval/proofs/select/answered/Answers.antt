@@ -19,6 +19,9 @@ use Rattle.ql_eval.proofs.MeterLemmas.{both_bounded, both_spent, clear_before, f
 use Rattle.std.proofs.lemmas.List.{length-map}
 use Rattle.ql_syntax.specs.StatementViews.{filter_of}
 use Rattle.ql_syntax.specs.declared.filter.Filter as code
+use Rattle.std.specs.Option.{option_to_list}
+use Rattle.ql_eval.specs.Absences.{IsAskedById}
+use Rattle.ql_eval.proofs.AbsenceLemmas.{base_asked}
 use Rattle.ql_eval.proofs.select.answered.Goals as goal
 
 -- how many filters a candidate is tested by
@@ -109,3 +112,8 @@ returns-clause-spent g c = on_ok_as c.apply_filters.result (λ walked p is under
     let counted = subst (λ (n : ℕ). IsCounted c.find_candidates.new.meter.spent c.charge_each.new.self.spent (step_cost * n)) all c.charge_each.ensures in
     let based = subst (λ (b : Option Filter). IsSpent (WorkOfBase p.objects b) c.args.meter.now.spent c.find_candidates.new.meter.spent) c.base.ensures (c.in_ok-found.ensures.spent p is under there allowed (clear_before (λ x. g.met.W.Source.grows _ _ x c.apply_filters.ensures.later) clear)) in
     both_spent _ _ _ based (set_spent _ _ found are (steps_spent (length found * (1 + length (plan.before ++ plan.after))) _ _ counted))) c.apply_filters.ensures.walked
+
+pub find_candidates-requires-clause-asked : goal.find_candidates-requires-clause-asked
+find_candidates-requires-clause-asked g c = λ r of.
+    let plan = c.args.plan.now in
+    c.requires.asked r (base_asked c.args.pick plan.before plan.after plan.base r (subst (λ (b : Option Filter). IsAskedById c.args.pick (option_to_list b) r) c.base.ensures of))

@@ -16,6 +16,7 @@ use Rattle.ql_eval.proofs.StepLemmas.{then_same}
 use Rattle.ql_eval.proofs.GivenLemmas.{sets_later}
 use Rattle.ref_sets.proofs.shared.Results.{on_ok_as}
 use Rattle.ql_eval.proofs.MeterLemmas.{both_bounded, both_spent, first_bounded, found_well, plan_bounded, plan_spent, steps_spent, steps_within}
+use Rattle.ql_eval.specs.Absences.{IsAskedById}
 use Rattle.ql_eval.proofs.select.select.Goals as goal
 
 pub returns-in_err-plan-clause-answer : goal.returns-in_err-plan-clause-answer
@@ -42,7 +43,7 @@ returns-clause-answer g c = λ p is under there lawful.
     (λ chosen. c.answered.ensures.answer p is (g.met.W.Source.same_under _ _ p c.in_ok-plan.ensures.later under) there (subst (λ (fs : List Filter). AllByRecursion (Allows pick) fs) (sym written) lawful))
 
 pub answered-requires-clause-named : goal.answered-requires-clause-named
-answered-requires-clause-named g c = sets_later (lists_of c.args.sets.now.named.items) (λ r. g.met.W.Source.same_gave _ _ r c.choose_plan.ensures.later) c.requires
+answered-requires-clause-named g c = sets_later (lists_of c.args.sets.now.named.items) (λ r. g.met.W.Source.same_gave _ _ r c.choose_plan.ensures.later) c.requires.named
 
 pub returns-in_err-plan-clause-bounded : goal.returns-in_err-plan-clause-bounded
 returns-in_err-plan-clause-bounded g c = λ p is under there lawful clear. first_bounded _ _ (steps_within _ _ _ c.charge_filters.ensures.bounded)
@@ -69,3 +70,7 @@ returns-clause-spent g c = on_ok_as c.answered.result (λ spent p is under there
 
 pub returns-in_err-charge_filters-clause-bounded : goal.returns-in_err-charge_filters-clause-bounded
 returns-in_err-charge_filters-clause-bounded g c = λ p is under there lawful clear. first_bounded _ _ (steps_within _ _ _ c.charge_filters.ensures.bounded)
+
+pub answered-requires-clause-asked : goal.answered-requires-clause-asked
+answered-requires-clause-asked g c = λ r of.
+    g.met.W.Source.still_may _ _ r c.choose_plan.ensures.later (c.requires.asked r (subst (λ (fs : List Filter). IsAskedById c.args.pick fs r) c.in_ok-plan.ensures.written.0 of))

@@ -1,5 +1,7 @@
 use Rattle.std.proofs.Common.{refl}
 use Rattle.std.proofs.lemmas.Result.{IfErr-weaker}
+use Rattle.ql_syntax.specs.StatementViews.{statements_of}
+use Rattle.ql_eval.specs.internal.Objects.{MayBeAbsentNow}
 use Rattle.osm_keys.specs.Manifests.{top_among}
 use Rattle.ql_eval.proofs.AbsenceLemmas.{looked_sound}
 use Rattle.ql_eval.proofs.GivenLemmas.{given_later}
@@ -27,4 +29,4 @@ pub returns-clause-told : goal.returns-clause-told
 returns-clause-told g c = IfErr-weaker c.look_up.result _ _ (λ fault told absent kept. told) c.look_up.ensures.told
 
 pub returns-clause-walked : goal.returns-clause-walked
-returns-clause-walked g c = looked_sound c.look_up.result (top_among c.args.self.now.manifest.tops) _ c.args.name _ _ _ _ _ _ _ _ c.look_up.ensures.walked
+returns-clause-walked g c = looked_sound c.look_up.result (top_among c.args.self.now.manifest.tops) (MayBeAbsentNow (statements_of c.args.self.now.statements.now) c.look_up.new.objects) c.args.name _ _ _ _ _ _ _ _ c.look_up.ensures.walked
