@@ -1,5 +1,6 @@
 """`serve` with many clients at a time: 64 at once and one more, clients that are silent, trickle, break off, close half,
-send 2,000 requests in one piece or read 10 MB slowly, each beside others that have to be answered meanwhile."""
+send 2,000 requests in one piece, read 10 MB slowly or a hundred large answers that they asked for at once, each beside
+others that have to be answered meanwhile."""
 
 import socket
 import struct
@@ -29,6 +30,10 @@ AT_ONCE = 2.0
 
 # The lines of the set of which an answer has 10 MB: some 100 bytes each.
 LARGE_COUNT = 100_000
+
+LARGE_LINE = b"n%d v1 dV c1 t2020-01-01T00:00:00Z i1 uA Thighway=crossing,name=%060d x13.4 y52.5\n"
+
+ASK_ALL = b"POST /api/interpreter HTTP/1.1\r\nContent-Length: 14\r\n\r\nnode;out meta;"
 
 
 def answered(connection, request, body):
@@ -192,22 +197,20 @@ def take_tardily(client, is_over):
 def check_large(tally):
     """A client that reads 10 MB slowly gets all of it, and others are answered meanwhile. One that reads nothing is let go, and
     so is one that reads less than 1 MiB in ten seconds, though it never is silent."""
-    line = b"n%d v1 dV c1 t2020-01-01T00:00:00Z i1 uA Thighway=crossing,name=%060d x13.4 y52.5\n"
     with tempfile.TemporaryDirectory() as room:
         file = Path(room) / "large.opl"
-        text = b"".join(line % (number, number) for number in range(1, LARGE_COUNT + 1))
+        text = b"".join(LARGE_LINE % (number, number) for number in range(1, LARGE_COUNT + 1))
         file.write_bytes(text)
-        ask_all = b"POST /api/interpreter HTTP/1.1\r\nContent-Length: 14\r\n\r\nnode;out meta;"
         with server(file, "--connections", 43) as running, ThreadPoolExecutor(1) as worker:
             at_first, is_over = running.descriptors(), threading.Event()
             with running.connect() as slow, running.connect() as stuck, running.connect() as tardy:
                 for client in (slow, stuck, tardy):
                     client.setsockopt(socket.SOL_SOCKET, socket.SO_RCVBUF, 1 << 16)
-                tardy.sendall(ask_all)
+                tardy.sendall(ASK_ALL)
                 begun = time.monotonic()
                 taking = worker.submit(take_tardily, tardy, is_over)
-                stuck.sendall(ask_all)
-                slow.sendall(ask_all)
+                stuck.sendall(ASK_ALL)
+                slow.sendall(ASK_ALL)
                 parts = []
                 for number in range(40):
                     parts.append(slow.recv(1 << 16))
@@ -234,10 +237,44 @@ def check_large(tally):
             tally.check("both are told", outcome == Outcome(b"", b"G2\nG2\n", 0), outcome)
 
 
+def check_burst(tally):
+    """A client that sends a hundred requests at once, each of which has an answer of 5 MB, and reads slowly: the server
+    holds no more than for a client that asks once."""
+    count, answer = 100, b"".join(LARGE_LINE % (number, number) for number in range(1, LARGE_COUNT // 2 + 1))
+    with tempfile.TemporaryDirectory() as room:
+        file = Path(room) / "large.opl"
+        file.write_bytes(answer)
+        with server(file, "--connections", 2) as running:
+            with running.connect() as connection:
+                tally.check("one answer of 5 MB", answered(connection, ASK_ALL, answer)[0])
+            for_one = running.peak_kib()
+            with running.connect() as connection, ThreadPoolExecutor(1) as sender:
+                connection.setsockopt(socket.SOL_SOCKET, socket.SO_RCVBUF, 1 << 16)
+                sending = sender.submit(connection.sendall, ASK_ALL * count)
+                sent = b"HTTP/1.1 200 OK"
+                heads, length, tail = 0, 0, b""
+                while heads < count or not tail.endswith(answer[-64:]):
+                    part = connection.recv(1 << 16)
+                    if not part:
+                        break
+                    # (a head may begin in one part and end in the next)
+                    heads += (tail[-len(sent) + 1 :] + part).count(sent)
+                    length += len(part)
+                    tail = (tail + part)[-64:]
+                    time.sleep(0.002)
+                sending.result()
+            for_all = running.peak_kib()
+            whole = heads == count and length > count * len(answer)
+            tally.check("a hundred answers of 5 MB, read slowly", whole, heads, length)
+            tally.check("memory of one answer at a time", for_all - for_one < len(answer) // 2048, for_one, for_all)
+            outcome = running.ended()
+            tally.check("a burst ends", outcome == Outcome(b"", b"", 0), outcome)
+
+
 def main():
     tally = Tally()
     # Most of them wait most of the time.
-    checks = [check_trickling, check_silent, check_large, check_limit, check_broken, check_half_closed, check_pipelined]
+    checks = [check_trickling, check_silent, check_large, check_burst, check_limit, check_broken, check_half_closed, check_pipelined]
     with ThreadPoolExecutor(len(checks)) as workers:
         for done in [workers.submit(check, tally) for check in checks]:
             done.result()

@@ -2,8 +2,9 @@
 
 ghost use Rattle.std.specs.Bool.{OnFalse};
 ghost use Rattle.std.specs.FinMap.{empty, get, len};
-ghost use Rattle.std.specs.Prelude.{◌≡◌, ◌<◌, ◌≤◌, ◌↔◌, IfErr, IfOk, IsSome, IsTrue, None, OnErr, OnOk, [], is_some};
+ghost use Rattle.std.specs.Prelude.{◌≡◌, ◌<◌, ◌≤◌, ◌↔◌, ℕ, IfErr, IfOk, IsSome, IsTrue, List, None, OnErr, OnOk, [], is_some, length};
 ghost use Rattle.osm_gate.specs.Connections.{Responds, RespondsWithin, requests_next, open_rest};
+ghost use Rattle.osm_gate.specs.Pieces.{CompletesOne, IsWanted};
 ghost use Rattle.osm_keys.specs.Publications.{Publication};
 ghost use Rattle.osm_index.specs.Snapshots.{HoldsPublication, IsAsBefore};
 ghost use Rattle.osm_desk.specs.AnnouncedRoots.{RefusesAnnounced, root_digits};
@@ -143,6 +144,23 @@ impl Desk {
         match self.gates.get(&number) {
             Some(gate) => gate.closed(),
             None => true,
+        }
+    }
+
+    /// How many bytes the next piece of the connection may have so that it completes one request at most, as
+    /// [`Gate::wanted`] tells: 0 where any number will do, if the piece ends after the first empty line in it. It takes no
+    /// memory.
+    pub fn wanted(&self, number: u32) -> usize
+        // A piece of fewer bytes completes nothing,
+        ensures fewer { (piece : List ℕ) → length piece < result
+            → (requests_next (rest_of self.now number) piece).complete ≡ [] }
+        // and one that is wanted one request at most.
+        ensures one { (piece : List ℕ) → IsWanted result piece
+            → CompletesOne (rest_of self.now number) piece }
+    {
+        match self.gates.get(&number) {
+            Some(gate) => gate.wanted(),
+            None => 0,
         }
     }
 

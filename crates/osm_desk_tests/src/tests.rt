@@ -6,6 +6,7 @@ mod memory;
 mod refusals;
 mod rows;
 mod serving;
+mod wanted;
 
 use opl_codec::{read_changes, read_set};
 use osm_desk::{Desk, DeskFault, Event};

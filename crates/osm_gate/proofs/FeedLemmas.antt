@@ -30,6 +30,8 @@ still-waits needed bytes piece is short =
       starts = starts-more bytes piece is.starts some;
       head = λ z. absurd (omega arith);
       some = λ _. omega (arith, some, length-append bytes piece);
+      missing = λ _. short;
+      none = is.waits piece short;
       waits = λ more below. rw append_assoc (is.waits (piece ++ more) (rw append_assoc at below));
     }
 

@@ -2,6 +2,7 @@ pub mod shared
 pub mod ConnectionLemmas
 pub mod FeedLemmas
 pub mod NoMemory
+pub mod OneRequest
 pub mod OneResponse
 pub mod QueryResponses
 pub mod RespondingLemmas

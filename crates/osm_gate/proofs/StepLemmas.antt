@@ -53,12 +53,34 @@ tail-place rest bytes tail =
     let place : length bytes - length rest ≡ k = omega (arith, left, size) in
     (omega (arith, left, size), rw place is)
 
-pub open-head : (bytes : List ℕ) → begins_with_break bytes ≡ false → head_length (take HEAD_LIMIT bytes) ≡ None → IsOpen 0 bytes
-open-head bytes begins e = record { starts = skip-none bytes begins; head = λ _. e; some = λ h. absurd (omega (arith, h)); waits = λ more h. absurd (omega (arith, h)) }
+pub open-head : (bytes : List ℕ) → begins_with_break bytes ≡ false → head_length (take HEAD_LIMIT bytes) ≡ None → first_request bytes ≡ None → IsOpen 0 bytes
+open-head bytes begins e none = record {
+  starts = skip-none bytes begins;
+  head = λ _. e;
+  some = λ h. absurd (omega (arith, h));
+  missing = λ h. absurd (omega (arith, h));
+  none = none;
+  waits = λ more h. absurd (omega (arith, h));
+}
 
-pub open-body : (bytes : List ℕ) (needed : ℕ) → begins_with_break bytes ≡ false → (0 < length bytes) × (length bytes < needed)
+pub open-body : (bytes : List ℕ) (needed : ℕ) → begins_with_break bytes ≡ false → (0 < length bytes) × (length bytes < needed) → first_request bytes ≡ None
     → ((more : List ℕ) → length (bytes ++ more) < needed → first_request (bytes ++ more) ≡ None) → IsOpen needed bytes
-open-body bytes needed begins missing waits = record { starts = skip-none bytes begins; head = λ z. absurd (omega (arith, missing.0, missing.1, z)); some = λ _. missing.0; waits = waits }
+open-body bytes needed begins missing none waits = record {
+  starts = skip-none bytes begins;
+  head = λ z. absurd (omega (arith, missing.0, missing.1, z));
+  some = λ _. missing.0;
+  missing = λ _. missing.1;
+  none = none;
+  waits = waits;
+}
+
+-- nothing is left
+open-nothing : IsOpen 0 []
+unfolding first_request
+open-nothing = open-head [] refl refl refl
+
+pub open-empty : (bytes : List ℕ) → bytes ≡ [] → IsOpen 0 bytes
+open-empty bytes is = rw is open-nothing
 
 -- ---- one step of the loop
 

@@ -1,4 +1,5 @@
 pub mod Connections
+pub mod Pieces
 pub mod Responses
 pub mod Routes
 pub mod Serving

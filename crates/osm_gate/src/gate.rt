@@ -1,10 +1,11 @@
 //! One connection.
 
-ghost use Rattle.std.specs.Prelude.{◌≡◌, ◌≤◌, IfOk, OnErr, [], drop, length};
+ghost use Rattle.std.specs.Prelude.{◌≡◌, ◌<◌, ◌≤◌, ℕ, IfOk, List, OnErr, [], drop, length};
 ghost use Rattle.osm_keys.specs.Publications.{Publication};
 ghost use Rattle.osm_index.specs.Snapshots.{HoldsPublication};
 ghost use Rattle.osm_gate.specs.Connections.{Responds, RespondsWithin, Rest, requests_next, open_rest};
-ghost use Rattle.osm_gate.specs.internal.Kept.{IsKept};
+ghost use Rattle.osm_gate.specs.Pieces.{CompletesOne, IsWanted};
+ghost use Rattle.osm_gate.specs.internal.Kept.{IsKept, ends_in_break};
 
 use crate::requests::respond_to_all;
 use crate::route::{Route, routes};
@@ -68,6 +69,23 @@ impl Gate {
         ensures { result.now ≡ self.now.bytes }
     {
         &self.rest
+    }
+
+    /// How many bytes the next piece may have so that it completes one request at most: those of a body that are still
+    /// missing; one where an empty line may go on after the bytes of a head; and 0 else, where a piece may have any number
+    /// of bytes, if it ends after the first empty line in it. A piece that has more is taken all the same. It takes no
+    /// memory.
+    pub fn wanted(&self) -> usize
+        // A piece of fewer bytes completes nothing,
+        ensures fewer { (piece : List ℕ) → length piece < result
+            → (requests_next self.now piece).complete ≡ [] }
+        // and one that is wanted one request at most.
+        ensures one { (piece : List ℕ) → IsWanted result piece → CompletesOne self.now piece }
+    {
+        if self.needed > 0 {
+            return self.needed - self.rest.len();
+        }
+        if ends_in_break(&self.rest) { 1 } else { 0 }
     }
 
     /// Takes the next piece, and gives the responses to the requests that it completes, over the snapshot. None
@@ -153,4 +171,14 @@ fn drop_front(bytes: &mut Vec<u8>, count: usize)
     let left = bytes.len() - count;
     bytes.as_mut_slice().rotate_left(count);
     bytes.truncate(left);
+}
+
+/// Whether the bytes end in CR or LF.
+fn ends_in_break(bytes: &[u8]) -> bool
+    ensures { result ≡ ends_in_break bytes.now }
+{
+    let Some(last) = bytes.last() else {
+        return false;
+    };
+    *last == b'\r' || *last == b'\n'
 }

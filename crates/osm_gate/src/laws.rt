@@ -1,11 +1,12 @@
 //! Laws of connections, and of their limits.
 
-ghost use Rattle.std.specs.Prelude.{◌≡◌, ◌++◌, ◌+◌, ◌^◌, ◌<◌, ℕ, List, Option, [], length, true};
+ghost use Rattle.std.specs.Prelude.{◌≡◌, ◌++◌, ◌∷◌, ◌+◌, ◌^◌, ◌<◌, ℕ, List, Option, [], length, true};
 ghost use Rattle.osm_keys.specs.Publications.{IsPublication, Publication};
 ghost use Rattle.osm_gate.specs.Connections.{Responds, RespondsWithin, Rest, closed_rest, requests_in, requests_next, joined_requests};
 ghost use Rattle.http_messages.specs.Requests.{Request};
 ghost use Rattle.http_messages.specs.declared.limits.TheConstants.{BODY_LIMIT, HEAD_LIMIT};
 ghost use Rattle.osm_gate.specs.declared.limits.TheConstants.{PIECE_LIMIT, READ_LIMIT};
+ghost use Rattle.osm_gate.specs.Pieces.{CompletesOne, IsCut};
 ghost use Rattle.osm_gate.specs.Serving.{longest_piece, most_reads};
 
 /// A law: some bytes and then others ask what the first ask, and then what is left of them and the others ask. So
@@ -20,6 +21,14 @@ pub fn nothing_after_the_end()
     ensures { (rest : Rest) (piece : List ℕ) → rest.is_closed ≡ true
         → ((requests_next rest piece).complete ≡ [])
         × ((requests_next rest piece).rest ≡ closed_rest) }
+{}
+
+/// A law: a piece completes one request at most, if no empty line ends in what was left and in the piece but at their end;
+pub fn pieces_complete_one()
+    ensures cut { (rest : Rest) (piece : List ℕ) → IsCut (rest.bytes ++ piece) → CompletesOne rest piece }
+    // and so does a byte more than a piece that completes none.
+    ensures more { (rest : Rest) (piece : List ℕ) (byte : ℕ) → (requests_next rest piece).complete ≡ []
+        → CompletesOne rest (piece ++ byte ∷ []) }
 {}
 
 /// A law: what responds to some requests and then to others is what responds to the first, and then what responds

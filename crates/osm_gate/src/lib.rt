@@ -24,6 +24,6 @@ pub use gate::Gate;
 pub use gate_fault::GateFault;
 pub use laws::{
     limits_law, nothing_after_the_end, one_response, one_response_within, pieces_ask_the_same,
-    responses_stand_in_order, rests_are_short,
+    pieces_complete_one, responses_stand_in_order, rests_are_short,
 };
 pub use serving::{no_memory_response, send_out_of_memory, serve, serve_connection};

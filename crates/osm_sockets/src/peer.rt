@@ -1,7 +1,7 @@
 //! One connection's socket.
 
 ghost use Rattle.std.specs.Prelude.{◌≤◌, IfOk, length, take};
-ghost use Rattle.osm_traffic.specs.Pieces.{IsCut};
+ghost use Rattle.osm_gate.specs.Pieces.{IsCut};
 
 use crate::patience::{IDLE_SECONDS, LINGER_READS, LINGER_SECONDS, PACE_BYTES, REQUEST_SECONDS};
 use mio::net::TcpStream;

@@ -25,7 +25,7 @@ use Rattle.osm_traffic.specs.Entries as entries
 use Rattle.osm_traffic.specs.declared.traffic.Room.{Room}
 use Rattle.osm_traffic.specs.declared.traffic.Room.TheVariants.{Free}
 use Rattle.osm_traffic.specs.Entries.{Entry, Writes, brought, came, left, left_by, noted, took}
-use Rattle.osm_traffic.specs.Pieces.{IsCut}
+use Rattle.osm_gate.specs.Pieces.{CompletesOne, IsCut}
 use Rattle.osm_desk.specs.Published.{HasPublished, IsPublishedFrom}
 use Rattle.osm_traffic.specs.internal.Standing.{IsOwed, Stands, Waiting}
 use Rattle.osm_traffic.proofs.DeedLemmas.{other, quiet, same}
@@ -84,6 +84,7 @@ module _ (most : Option ℕ) (wanted : ℕ) (d : Desk) (base : List Entry) (deed
       room = s.room;
       made = s.made;
       cut = s.cut;
+      single = s.single;
       count = s.count;
       open_are = len-put_old outputs n (drop count bytes) bytes some ∙ s.open_are;
       makes_room = s.makes_room;
@@ -130,6 +131,7 @@ module _ (most : Option ℕ) (wanted : ℕ) (d : Desk) (base : List Entry) (deed
           room = s.room;
           made = s.made;
           cut = s.cut;
+          single = s.single;
           count = s.count;
           open_are = s.open_are;
           makes_room = s.makes_room;
@@ -169,6 +171,7 @@ module _ (most : Option ℕ) (wanted : ℕ) (d : Desk) (base : List Entry) (deed
       room = s.room;
       made = s.made;
       cut = s.cut;
+      single = s.single;
       count = s.count;
       open_are = one_less;
       makes_room = s.makes_room;
@@ -190,6 +193,7 @@ module _ (most : Option ℕ) (wanted : ℕ) (d : Desk) (base : List Entry) (deed
       room = s.room;
       made = s.made;
       cut = s.cut;
+      single = s.single;
       count = s.count;
       open_are = one_less;
       makes_room = s.makes_room;
@@ -213,6 +217,7 @@ module _ (most : Option ℕ) (wanted : ℕ) (d : Desk) (base : List Entry) (deed
     room = s.room;
     made = s.made;
     cut = s.cut;
+    single = s.single;
     count = s.count;
     open_are = s.open_are;
     makes_room = (
@@ -257,12 +262,15 @@ module _ (most : Option ℕ) (wanted : ℕ) (d : Desk) (base : List Entry) (deed
 
   -- ---- a piece is heard
 
-  module _ (n : ℕ) (piece : List ℕ) (idle : get outputs n ≡ Some []) (is_cut : IsCut piece) where
+  module _ (n : ℕ) (piece : List ℕ) (idle : get outputs n ≡ Some []) (is_cut : IsCut piece) (is_single : CompletesOne (rest_of contents n) piece) where
     all_sent : sent n deeds ≡ owed n deeds
     all_sent = sym (append-nil (sent n deeds)) ∙ subst (λ o. IsOwed o (sent n deeds) (owed n deeds)) idle (s.owes n)
 
     below : n < taken
     below = ⊎_elim (λ (lt : n < taken). lt) (λ (above : taken ≤ n). let none = s.known n above in let no = sym idle ∙ none in cc) (cases_lt n taken)
+
+    single_now : CompletesOne (rest_if (get D.connections n)) piece
+    single_now = subst (λ (all : Connections). CompletesOne (rest_if (get all n)) piece) same_connections is_single
 
     to_one : (c : ℕ) (text : List ℕ) → (n ≡ c → ⊥) → texts_for c ((n, text) ∷ []) ≡ []
     to_one c text apart = other n c (text ++ []) [] apart
@@ -302,6 +310,7 @@ module _ (most : Option ℕ) (wanted : ℕ) (d : Desk) (base : List Entry) (deed
           room = s.room;
           made = s.made;
           cut = (is_cut, s.cut);
+          single = (single_now, s.single);
           count = s.count;
           open_are = len-put_old outputs n text [] idle ∙ s.open_are;
           makes_room = s.makes_room;
@@ -336,6 +345,7 @@ module _ (most : Option ℕ) (wanted : ℕ) (d : Desk) (base : List Entry) (deed
           room = s.room;
           made = s.made;
           cut = (is_cut, s.cut);
+          single = (single_now, s.single);
           count = s.count;
           open_are = len-put_old outputs n no_memory [] idle ∙ s.open_are;
           makes_room = s.makes_room;
@@ -384,6 +394,7 @@ module _ (most : Option ℕ) (wanted : ℕ) (d : Desk) (base : List Entry) (deed
           room = (sym s.count, has_room, s.room);
           made = s.made;
           cut = s.cut;
+          single = s.single;
           count = ap suc s.count ∙ sym (add-one taken);
           open_are = len-put_new outputs taken [] (s.known taken (omega arith)) ∙ add-one (len outputs) ∙ ap suc s.open_are;
           makes_room = s.makes_room;
@@ -416,6 +427,7 @@ module _ (most : Option ℕ) (wanted : ℕ) (d : Desk) (base : List Entry) (deed
           room = (sym s.count, has_room, s.room);
           made = s.made;
           cut = s.cut;
+          single = s.single;
           count = ap suc s.count ∙ sym (add-one taken);
           open_are = len-put_new outputs taken no_memory (s.known taken (omega arith)) ∙ add-one (len outputs) ∙ ap suc s.open_are;
           makes_room = s.makes_room;
@@ -443,6 +455,7 @@ module _ (most : Option ℕ) (wanted : ℕ) (d : Desk) (base : List Entry) (deed
           room = (sym s.count, has_room, s.room);
           made = s.made;
           cut = s.cut;
+          single = s.single;
           count = ap suc s.count ∙ sym (add-one taken);
           open_are = s.open_are ∙ sym (one_back (open_count deeds));
           makes_room = s.makes_room;
@@ -466,6 +479,7 @@ module _ (most : Option ℕ) (wanted : ℕ) (d : Desk) (base : List Entry) (deed
       room = s.room;
       made = (made, s.made);
       cut = s.cut;
+      single = s.single;
       count = s.count;
       open_are = s.open_are;
       makes_room = s.makes_room;
@@ -483,6 +497,7 @@ module _ (most : Option ℕ) (wanted : ℕ) (d : Desk) (base : List Entry) (deed
       room = s.room;
       made = s.made;
       cut = s.cut;
+      single = s.single;
       count = s.count;
       open_are = s.open_are;
       makes_room = s.makes_room;
@@ -494,7 +509,7 @@ module _ (most : Option ℕ) (wanted : ℕ) (d : Desk) (base : List Entry) (deed
   -- ---- what it comes to
 
   pub serves : Serves most wanted d deeds
-  serves = record { ran = s.ran; fronts = λ c. owed_any (get outputs c) (sent c deeds) (owed c deeds) (s.owes c); paced = s.paced; room = s.room; makes_room = s.makes_room; hushed = s.hushed; made = s.made; cut = s.cut }
+  serves = record { ran = s.ran; fronts = λ c. owed_any (get outputs c) (sent c deeds) (owed c deeds) (s.owes c); paced = s.paced; room = s.room; makes_room = s.makes_room; hushed = s.hushed; made = s.made; cut = s.cut; single = s.single }
 
 -- the same, told of other values
 pub moved : (most : Option ℕ) (wanted : ℕ) (d : Desk) (base : List Entry) (deeds : List Deed) (log log' : Option (List Entry)) (outputs outputs' : Waiting) (contents contents' : Contents) (taken : ℕ)
@@ -536,6 +551,7 @@ begins most wanted contents p base log none held is = record {
   room = tt;
   made = tt;
   cut = tt;
+  single = tt;
   count = refl;
   open_are = len-empty nat_cmp (List ℕ);
   makes_room = tt;

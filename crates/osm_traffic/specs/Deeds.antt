@@ -1,9 +1,10 @@
 -- What the server did, the newest first: steps of the desk, what went to the sockets, and waiting.
 -- Source: this project.
-use Rattle.std.specs.FinMap.{len}
+use Rattle.std.specs.FinMap.{get, len}
 use Rattle.std.specs.Prelude.{◌≡◌, ◌==◌, ◌<◌, ◌-◌, ◌↔◌, ℕ, suc, Bool, true, false, List, [], ◌∷◌, ◌++◌, Option, Result, Ok, Err, if◌then◌else◌}
 use Rattle.osm_desk.specs.Desks.{Desk, step}
 use Rattle.osm_desk.specs.Happenings.{Happening, arrived, ended, opened, published}
+use Rattle.osm_desk.specs.OneConnection.{rest_if}
 use Rattle.osm_desk.specs.Runs.{Done, IsRefusedBy}
 use Rattle.osm_desk.specs.Stepping.{GivesWithin}
 use Rattle.osm_gate.specs.Serving.{no_memory}
@@ -11,7 +12,7 @@ use Rattle.osm_keys.specs.Publications.{Publication}
 use Rattle.osm_desk.specs.declared.desk_fault.DeskFault.{DeskFault}
 use Rattle.osm_desk.specs.declared.limits.TheConstants.{CONNECTION_LIMIT}
 use Rattle.osm_index.specs.declared.apply_fault.ApplyFault.{ApplyFault}
-use Rattle.osm_traffic.specs.Pieces.{IsCut}
+use Rattle.osm_gate.specs.Pieces.{CompletesOne, IsCut}
 use Rattle.osm_desk.specs.Published.{IsPublishedFrom}
 use Rattle.osm_traffic.specs.Entries as entries
 use Rattle.osm_traffic.specs.Entries.{Entry, brought, came, left, took}
@@ -213,6 +214,18 @@ AreCut (parted n whole ∷ before) = AreCut before
 AreCut (lost n ∷ before) = AreCut before
 AreCut (waited room ∷ before) = AreCut before
 
+-- each piece that was read completes one request at most, with what was left of its connection
+abbrev pub AreSingle : Desk → List Deed → Type 0
+AreSingle d [] = Unit {0}
+AreSingle d (stepped (opened n) r ∷ before) = AreSingle d before
+AreSingle d (stepped (arrived n piece) r ∷ before) = CompletesOne (rest_if (get (desk_after d before).connections n)) piece × AreSingle d before
+AreSingle d (stepped (ended n) r ∷ before) = AreSingle d before
+AreSingle d (stepped (published made) r ∷ before) = AreSingle d before
+AreSingle d (handed n bytes ∷ before) = AreSingle d before
+AreSingle d (parted n whole ∷ before) = AreSingle d before
+AreSingle d (lost n ∷ before) = AreSingle d before
+AreSingle d (waited room ∷ before) = AreSingle d before
+
 -- what the server did is a run of the desk, where there may be a budget for each query, and so many connections are wanted
 pub record Serves (most : Option ℕ) (wanted : ℕ) (d : Desk) (deeds : List Deed) : Type 0 where
   -- each step is one that the desk may make,
@@ -229,8 +242,10 @@ pub record Serves (most : Option ℕ) (wanted : ℕ) (d : Desk) (deeds : List De
   pub hushed : IsHushed deeds
   -- what is published is made by change files,
   pub made : AreMade d deeds
-  -- and no piece goes on after an empty line
+  -- no piece goes on after an empty line,
   pub cut : AreCut deeds
+  -- and none completes more than one request
+  pub single : AreSingle d deeds
 
 -- the steps alone, the oldest first
 abbrev pub in_order : List Deed → List Done

@@ -1,7 +1,7 @@
 -- What goes in and out at the sockets.
 -- Source: this project.
 use Rattle.std.specs.Prelude.{◌≡◌, ◌<◌, ◌≤◌, ℕ, Bool, true, false, List, ◌∷◌, Option, Some, None, length, take}
-use Rattle.osm_traffic.specs.Pieces.{IsCut}
+use Rattle.osm_gate.specs.Pieces.{IsCut}
 use Rattle.osm_traffic.specs.declared.traffic.Room.{Room}
 use Rattle.osm_traffic.specs.declared.traffic.Reading.{Reading}
 use Rattle.osm_traffic.specs.declared.traffic.Reading.TheVariants as readings

@@ -1,9 +1,10 @@
 //! What comes in.
 
 ghost use Rattle.std.specs.FinMap.{get};
-ghost use Rattle.std.specs.Prelude.{◌≡◌, IsSome, IsTrue, List, Option, Some, []};
+ghost use Rattle.std.specs.Prelude.{◌≡◌, ◌≤◌, ℕ, IsSome, IsTrue, List, Option, Some, [], length};
+ghost use Rattle.osm_desk.specs.OneConnection.{rest_of};
+ghost use Rattle.osm_gate.specs.Pieces.{CompletesOne, IsCut, IsWanted};
 ghost use Rattle.osm_traffic.specs.Entries.{Entry, noted, brought};
-ghost use Rattle.osm_traffic.specs.Pieces.{IsCut};
 ghost use Rattle.osm_traffic.specs.internal.Standing.{Keeps};
 
 use crate::leaving::{break_off, part, tell};
@@ -16,6 +17,7 @@ use osm_gate::GateFault;
 use std::io::Write;
 
 /// Reads a piece of a connection that has nothing coming any more, and answers it, where each query has the budget, or none.
+/// No more is read than is wanted, so the piece completes one request at most.
 pub(crate) fn listen<T: Traffic, E: Write>(
     desk: &mut Desk,
     outputs: &mut Outputs,
@@ -32,9 +34,11 @@ pub(crate) fn listen<T: Traffic, E: Write>(
     if !may_read(desk, outputs, number) {
         return;
     }
-    match traffic.read(number, piece) {
+    let room = room_for(desk.wanted(number), piece.len());
+    let front = &mut piece[..room];
+    match traffic.read(number, front) {
         Reading::Got(count) => {
-            hear(desk, outputs, errors, number, &piece[..count], most);
+            hear(desk, outputs, errors, number, &front[..count], most);
             hand(desk, outputs, traffic, errors, number);
         }
         Reading::Later => {}
@@ -43,6 +47,14 @@ pub(crate) fn listen<T: Traffic, E: Write>(
             break_off(desk, outputs, traffic, errors, number, GateFault::Reader);
         }
     }
+}
+
+/// How much of a piece is read, where so much is wanted.
+fn room_for(wanted: usize, room: usize) -> usize
+    ensures within { result ≤ room }
+    ensures wanted { (piece : List ℕ) → length piece ≤ result → IsCut piece → IsWanted wanted piece }
+{
+    if wanted == 0 { room } else { wanted.min(room) }
 }
 
 /// Whether the connection is open and has nothing coming.
@@ -68,6 +80,7 @@ fn hear<E: Write>(
     requires idle { get outputs.old number ≡ Some [] }
     requires open { IsSome (get desk.old.connections number) }
     requires cut { IsCut piece.now }
+    requires single { CompletesOne (rest_of desk.old number) piece.now }
     ensures kept { (log : Option (List Entry))
         → Keeps most log (noted (brought number piece.now) log)
         outputs.old outputs.new desk.old desk.new }

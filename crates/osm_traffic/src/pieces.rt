@@ -1,7 +1,7 @@
 //! How what is read is cut into pieces.
 
 ghost use Rattle.std.specs.Prelude.{◌≡◌, ◌<◌, ◌≤◌, length, take};
-ghost use Rattle.osm_traffic.specs.Pieces.{IsCut, cut_length};
+ghost use Rattle.osm_gate.specs.Pieces.{IsCut, cut_length};
 
 use http_messages::head_end;
 

@@ -70,8 +70,8 @@ pub trait Traffic {
         ensures taken { IfOk result (λ is. log self.new ≡ taken_by is number (log self.old)) }
         ensures refused { OnErr result (log self.new ≡ log self.old) };
 
-    /// Reads from the connection. What comes is cut after each empty line, so that a piece completes two requests at
-    /// most: the one that was begun before, and one whose head ends with the piece.
+    /// Reads from the connection. What comes is cut after each empty line, and no more of the piece is offered than is
+    /// wanted of the connection ([`osm_desk::Desk::wanted`]). So what is read completes one request at most.
     fn read(&mut self, number: u32, piece: &mut [u8]) -> Reading
         ensures read { Reads number piece.new (log self.old) (log self.new) result };
 

@@ -4,7 +4,7 @@ use Rattle.std.specs.Ordering.{nat_cmp}
 use Rattle.std.specs.Prelude.{◌≡◌, ◌≤◌, ℕ, true, false, List, [], ◌++◌, Option, Some, None}
 use Rattle.osm_desk.specs.Contents.{Contents, StandsFor}
 use Rattle.osm_desk.specs.Desks.{Desk}
-use Rattle.osm_traffic.specs.Deeds.{AreCut, AreMade, Deed, HasRoom, IsHushed, IsPaced, MakesRoom, Runs, arrivals, desk_after, is_fed, log_of, open_count, owed, sent}
+use Rattle.osm_traffic.specs.Deeds.{AreCut, AreMade, AreSingle, Deed, HasRoom, IsHushed, IsPaced, MakesRoom, Runs, arrivals, desk_after, is_fed, log_of, open_count, owed, sent}
 use Rattle.osm_traffic.specs.Entries.{Entry}
 
 -- what each connection has coming that its socket hasn't taken yet
@@ -29,6 +29,7 @@ pub record Stands (most : Option ℕ) (wanted : ℕ) (d : Desk) (base : List Ent
   pub room : HasRoom d deeds
   pub made : AreMade d deeds
   pub cut : AreCut deeds
+  pub single : AreSingle d deeds
   pub count : arrivals deeds ≡ taken
   pub open_are : len outputs ≡ open_count deeds
   pub makes_room : MakesRoom wanted d deeds

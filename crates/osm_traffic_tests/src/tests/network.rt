@@ -34,6 +34,27 @@ pub(super) struct Client {
     pub(super) got: Vec<u8>,
     /// Whether it was let go as a whole one, if it was let go.
     pub(super) end: Option<bool>,
+    /// How much it had got when it was last read.
+    noted: usize,
+    /// How many came at most between two reads.
+    pub(super) most_at_once: usize,
+}
+
+impl Client {
+    /// Notes how many responses came since it was last read.
+    fn note(&mut self) {
+        let more = self.got.get(self.noted..).unwrap_or(b"");
+        self.most_at_once = self.most_at_once.max(responses_in(more));
+        self.noted = self.got.len();
+    }
+}
+
+/// How many responses begin in these bytes.
+fn responses_in(bytes: &[u8]) -> usize {
+    bytes
+        .windows(9)
+        .filter(|front| *front == b"HTTP/1.1 ".as_slice())
+        .count()
 }
 
 /// Clients that send a text in pieces that are cut anywhere, and take what they are given in pieces, too. What happens
@@ -42,6 +63,8 @@ pub(super) struct Client {
 pub(super) struct Network {
     alloc: Global,
     text: &'static [u8],
+    /// All that is left comes at once, and it is counted how many responses come between two reads.
+    pub(super) in_bursts: bool,
     numbers: Numbers,
     /// One in so many reads and writes finds that the connection is broken; none does where it is 0.
     breaks: u32,
@@ -68,6 +91,7 @@ impl Network {
         Network {
             alloc,
             text,
+            in_bursts: false,
             numbers: Numbers { state: seed },
             breaks,
             fails_at,
@@ -123,6 +147,8 @@ impl Traffic for Network {
             sent: 0,
             got: Vec::new(self.alloc),
             end: None,
+            noted: 0,
+            most_at_once: 0,
         };
         let Ok(()) = self.clients.push(client) else {
             return Err(TrafficFault::Memory);
@@ -135,11 +161,16 @@ impl Traffic for Network {
 
     fn read(&mut self, number: u32, piece: &mut [u8]) -> Reading {
         let most = self.numbers.below(90) as usize;
+        let in_bursts = self.in_bursts;
         let text = self.text;
         let Some(client) = self.client(number) else {
             return Reading::Gone;
         };
         let left = text.get(client.sent..).unwrap_or(b"");
+        let most = if in_bursts { left.len() } else { most };
+        if in_bursts {
+            client.note();
+        }
         if left.is_empty() {
             return Reading::Ended;
         }
@@ -166,6 +197,7 @@ impl Traffic for Network {
     }
 
     fn end(&mut self, number: u32, whole: bool) -> bool {
+        let in_bursts = self.in_bursts;
         let Some(client) = self.clients.get_mut(number as usize) else {
             return false;
         };
@@ -173,6 +205,9 @@ impl Traffic for Network {
             return false;
         }
         client.end = Some(whole);
+        if in_bursts {
+            client.note();
+        }
         self.open = self.open.saturating_sub(1);
         true
     }

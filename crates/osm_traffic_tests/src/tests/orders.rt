@@ -74,6 +74,26 @@ fn sixty_four_are_served_at_once(rt: HostRuntime) -> Result<(), Fail> {
     Ok(())
 }
 
+/// Requests that come in bursts, a body and the requests after it in one, are answered one after the other, too.
+#[test]
+fn bursts_are_answered_one_by_one(rt: HostRuntime) -> Result<(), Fail> {
+    for seed in 1..5 {
+        let mut network = Network::new(rt.alloc(), TEXT, seed, 0, 0);
+        network.in_bursts = true;
+        assert_eq!(rt;
+            run(&rt, &mut network, Edition::Two { sequence: 7 }, 20)?,
+            Ok(())
+        );
+        assert!(rt;
+            network
+                .clients
+                .iter()
+                .all(|client| client.most_at_once == 1)
+        );
+    }
+    Ok(())
+}
+
 /// Wherever the network fails, what was taken by then is the beginning of what is right.
 #[test]
 fn each_wait_may_fail(rt: HostRuntime) -> Result<(), Fail> {

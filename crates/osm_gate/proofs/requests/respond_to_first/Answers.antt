@@ -32,12 +32,12 @@ returns-else-branch c =
 
 pub returns-in-HeadOpen : goal.returns-in-HeadOpen
 returns-in-HeadOpen c =
-    (sym c.in-HeadOpen.ensures.decided, open-head c.args.bytes.now c.requires.begins c.in-HeadOpen.ensures.open, refl)
+    (sym c.in-HeadOpen.ensures.decided, open-head c.args.bytes.now c.requires.begins c.in-HeadOpen.ensures.open (sym c.in-HeadOpen.ensures.decided), refl)
 
 pub returns-in-BodyOpen : goal.returns-in-BodyOpen
 returns-in-BodyOpen c = (
   sym c.in-BodyOpen.ensures.decided,
-  open-body c.args.bytes.now c.in-BodyOpen.needed c.requires.begins c.in-BodyOpen.ensures.missing c.in-BodyOpen.ensures.waits,
+  open-body c.args.bytes.now c.in-BodyOpen.needed c.requires.begins c.in-BodyOpen.ensures.missing (sym c.in-BodyOpen.ensures.decided) c.in-BodyOpen.ensures.waits,
   refl,
 )
 

@@ -11,7 +11,7 @@ returns-in_default-clause-kept g c = λ log taken wanted d base deeds s. (
   _,
   moved c.args.most wanted d base _ _ _ _ _ _ _ taken refl
       (some_of (λ bytes. c.put.new.self ≡ insert c.args.outputs.now c.args.number c.apology.result) _ [] c.requires.idle c.put.ensures ∙ ap (insert c.args.outputs.now c.args.number) c.apology.ensures) refl
-      (hears_err c.args.most wanted d base deeds log _ _ taken s c.args.number c.args.piece.now c.requires.idle c.requires.cut _ c.requires.open (c.forget.ensures.forgotten ∙ ap (λ (all : Contents). without all c.args.number) c.in_default.ensures.unchanged)),
+      (hears_err c.args.most wanted d base deeds log _ _ taken s c.args.number c.args.piece.now c.requires.idle c.requires.cut c.requires.single _ c.requires.open (c.forget.ensures.forgotten ∙ ap (λ (all : Contents). without all c.args.number) c.in_default.ensures.unchanged)),
 )
 
 pub returns-in_default-clause-snapshot : goal.returns-in_default-clause-snapshot
@@ -23,7 +23,7 @@ returns-clause-kept g c = λ log taken wanted d base deeds s. (
   _,
   moved c.args.most wanted d base _ _ _ _ _ _ _ taken refl
       (some_of (λ bytes. c.put-2.new.self ≡ insert c.args.outputs.now c.args.number c.answers.result) _ [] c.requires.idle c.put-2.ensures ∙ ap (insert c.args.outputs.now c.args.number) c.answers.ensures) refl
-      (hears_ok c.args.most wanted d base deeds log _ _ taken s c.args.number c.args.piece.now c.requires.idle c.requires.cut _ c.in-Ok.text.items c.requires.open c.in-Ok.ensures.responses (c.in-Ok.ensures.open c.requires.open)),
+      (hears_ok c.args.most wanted d base deeds log _ _ taken s c.args.number c.args.piece.now c.requires.idle c.requires.cut c.requires.single _ c.in-Ok.text.items c.requires.open c.in-Ok.ensures.responses (c.in-Ok.ensures.open c.requires.open)),
 )
 
 pub returns-clause-snapshot : goal.returns-clause-snapshot

@@ -1,6 +1,6 @@
 use Rattle.std.proofs.Common.{◌≡◌, ◌∙◌, ◌++◌, arith, drop, take, rules, sym, subst}
 use Rattle.std.proofs.lemmas.Grind.{common_steps}
-use Rattle.osm_traffic.specs.Pieces.{IsCut}
+use Rattle.osm_gate.specs.Pieces.{IsCut}
 use Rattle.osm_traffic.proofs.PieceLemmas.{given-bytes, given-cut, given-length, given-room, given-some, room-length}
 use Rattle.osm_traffic.proofs.pieces.give_piece.Goals as goal
 

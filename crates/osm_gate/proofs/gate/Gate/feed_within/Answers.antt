@@ -2,6 +2,7 @@ use Rattle.std.proofs.Common.{rules, ◌≡◌, ◌∙◌, ap, sym, arith, [], �
 use Rattle.std.specs.Prelude.{◌⊎◌}
 use Rattle.osm_gate.specs.Connections.{Requests, Rest, requests_next}
 use Rattle.osm_gate.proofs.FeedLemmas.{next-open, still-waits, waits-requests_in, scanned-before}
+use Rattle.osm_gate.proofs.StepLemmas.{open-empty}
 use Rattle.osm_gate.proofs.gate.Gate.feed_within.Goals as goal
 use Rattle.osm_gate.proofs.gate.Gate.feed_within.Goals.{then-self-eq0, else-self-eq0}
 
@@ -51,3 +52,6 @@ respond_to_all-requires-clause-scanned c =
       | else-self-eq0 w ↦ inr w.scanned-is
     ] in
     rw items (scanned-before c.self.inside.needed c.if-self-eq0.scanned c.self.inside.rest.items c.args.piece.now c.self.invariant.is_open from)
+
+pub invariant_of-self-in-None : goal.invariant_of-self-in-None
+invariant_of-self-in-None c = record { closed = λ e. c.clear.ensures.items; is_open = open-empty c.clear.new.self.items c.clear.ensures.items; routes = c.self.invariant.routes }
