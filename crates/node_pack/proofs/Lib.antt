@@ -1,0 +1,4 @@
+mod ChildLemmas
+mod HeaderLemmas
+mod PlaceMaps
+mod RecordLemmas

@@ -15,7 +15,8 @@ pub(crate) fn list_children(node: &[u8], children: &mut Vec<Digest>) -> Result<(
 {
     children.clear();
     if let Some(manifest) = read_manifest(node) {
-        return children.extend_from_slice(&manifest.tops);
+        let [objects, tags, cells, backs] = manifest.tops;
+        return children.extend_from_slice(&[objects, tags, cells, backs]);
     }
     match NodeRef::read(node) {
         Ok(NodeRef::Inner {

@@ -1,7 +1,7 @@
 //! The header of a pack.
 
-ghost use Rattle.std.specs.Prelude.{◌≡◌, ◌<◌, MatchOption, length};
-ghost use Rattle.node_pack.specs.Headers.{fields_at, header_at};
+ghost use Rattle.std.specs.Prelude.{◌≡◌, ◌<◌, ◌≤◌, MatchOption, length};
+ghost use Rattle.node_pack.specs.Headers.{fields_at, header_at, sized};
 
 use crate::fault::PackFault;
 use crate::place::Place;
@@ -41,9 +41,16 @@ pub(crate) fn read_header(front: &[u8], size: u64) -> Result<Header, PackFault>
     if u32::from_be_bytes(*version) != VERSION {
         return Err(PackFault::OtherVersion);
     }
-    let Some(header) = read_fields(rest) else {
-        return Err(PackFault::Cut);
-    };
+    match read_fields(rest) {
+        Some(header) => for_size(header, size),
+        None => Err(PackFault::Cut),
+    }
+}
+
+/// The header, if it states that the file has this many bytes.
+fn for_size(header: Header, size: u64) -> Result<Header, PackFault>
+    ensures { result ≡ sized header size }
+{
     if size < header.size {
         return Err(PackFault::Cut);
     }
@@ -55,7 +62,8 @@ pub(crate) fn read_header(front: &[u8], size: u64) -> Result<Header, PackFault>
 
 /// What the fields after the version say; none where they are cut short.
 fn read_fields(bytes: &[u8]) -> Option<Header>
-    ensures { MatchOption result (length bytes.now < 52) (λ header. header ≡ fields_at bytes.now) }
+    ensures { MatchOption result (length bytes.now < 52) 
+        (λ header. (52 ≤ length bytes.now) × (header ≡ fields_at bytes.now)) }
 {
     let (root, rest) = bytes.split_first_chunk()?;
     let (size, rest) = rest.split_first_chunk()?;
