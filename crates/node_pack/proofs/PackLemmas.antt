@@ -1,11 +1,13 @@
 -- What stands where in a pack.
-use Rattle.std.proofs.Common.{◌≡◌, ◌≤◌, ◌<◌, ◌+◌, ◌*◌, ◌-◌, ◌^◌, ◌⊎◌, inl, inr, ℕ, List, [], ◌∷◌, ◌++◌, Bool, true, false, cond, Option, Some, None, IsSome, length, take, drop, min, refl, sym, ap, subst, ◌∙◌, arith, append_assoc, length-append, length-take, w32, w64}
+use Rattle.std.proofs.Common.{◌≡◌, ◌≤◌, ◌<◌, ◌+◌, ◌-◌, ◌^◌, ◌⊎◌, inl, inr, ℕ, List, [], ◌∷◌, ◌++◌, Bool, true, false, cond, Option, Some, None, IsSome, length, take, drop, min, refl, sym, ap, subst, ◌∙◌, arith, append_assoc, length-append, length-take, w32, w64}
 use Rattle.std.specs.Int.{to_be_bytes}
-use Rattle.std.specs.HashMap.{HashMap}
+use Rattle.std.specs.HashMap.{HashMap, IsEmpty}
+use Rattle.std.specs.Map.{lookup}
+use Rattle.tree_node.specs.Keys.{digest_eq}
 use Rattle.std.specs.List.{AllByRecursion, Contains, flat_map}
 use Rattle.std.specs.Str.{bytes_eq}
-use Rattle.std.specs.Prelude.{OnOk, Result, Ok, Err, unwrap_or}
-use Rattle.std.proofs.Math.Seq.{take-append-add, drop-append_seam}
+use Rattle.std.specs.Prelude.{OnOk, IfErr, IsErrAnd, Result, Ok, Err, unwrap_or}
+use Rattle.std.proofs.Math.Seq.{take-append-add}
 use Rattle.std.proofs.lemmas.Bool.{cases_order}
 use Rattle.std.proofs.lemmas.List.{drop_at, take_at, take_all, take-append-le, take-take}
 use Rattle.std.proofs.lemmas.Slice.Eq.{bytes_eq-Decides}
@@ -14,13 +16,15 @@ use Rattle.tree_node.specs.Digests.{digest}
 use Rattle.tree_node.specs.declared.digest.Digest.{Digest}
 use Rattle.tree_node.proofs.shared.FieldLemmas.{wide32}
 use Rattle.node_pack.specs.declared.header.TheConstants.{MAGIC, VERSION}
-use Rattle.node_pack.specs.Headers.{header_bytes}
+use Rattle.node_pack.specs.Headers.{header_at, header_bytes}
+use Rattle.node_pack.specs.declared.fault.PackFault.{PackFault}
 use Rattle.node_pack.specs.Known.{AreTrue, IsPlaced}
 use Rattle.node_pack.specs.Packs.{HasChildren, IsKept, IsPack, Kept, no_place, node_in, pack, pack_len, place_from, place_in, record_bytes, record_len, records_in, table}
 use Rattle.node_pack.specs.Places.{at_place, place_bytes}
 use Rattle.node_pack.specs.declared.header.Header.{Header}
 use Rattle.node_pack.specs.declared.place.Place.{Place}
 use Rattle.node_pack.proofs.ChildLemmas.{few_children}
+use Rattle.node_pack.proofs.HeaderLemmas.{header_again}
 use Rattle.node_pack.proofs.RecordLemmas.{node_again, place_long, record_long}
 
 -- what is so of each of a list is so of what it contains
@@ -228,3 +232,50 @@ trues_after {S = S} nodes key most bytes m n read old same learned =
       | inl le ↦ learned (place_in nodes) read.kept old (read.whole le) read.children read.placed read.short
       | inr lt ↦ subst (λ (places : HashMap Digest Place S). AreTrue (place_in nodes) places) (sym (same (read.long lt))) old
     ]
+
+-- Ok of a header
+abbrev the_ok : Header → Result Header PackFault
+the_ok h = Ok h
+
+-- the header of a pack
+abbrev pub header_in : List ℕ → List Kept → Header
+header_in root nodes = record { root = record { 0 = root }; size = pack_len nodes; manifest = unwrap_or (place_in nodes root) no_place }
+
+-- What is read of the header of a pack.
+pub record HasHeader (root : List ℕ) (nodes : List Kept) (header : Header) : Type 0 where
+  pub same : header.root.0 ≡ root
+  pub is : place_in nodes header.root.0 ≡ Some header.manifest
+  pub near : header.manifest.at < 2 ^ 48
+
+pub pack_long : (root : List ℕ) (nodes : List Kept) → length root ≡ 32 → length (pack root nodes) ≡ pack_len nodes
+unfolding pack
+pack_long root nodes wide =
+    omega (arith, length-append (header_bytes (header_in root nodes)) (records_in nodes), header_long (header_in root nodes) wide)
+
+pub has_header : (root : List ℕ) (nodes : List Kept) (header : Header) → IsPack (pack root nodes) root nodes → header_at (take 60 (pack root nodes)) (length (pack root nodes)) ≡ Ok header
+    → HasHeader root nodes header
+unfolding pack
+has_header root nodes header is read =
+    let h = header_in root nodes in
+    let placed = (are_placed root nodes is (root ∷ []) (is.rooted, tt)).0 in
+    let place : h.manifest ≡ placed.place = ap (λ (o : Option Place). unwrap_or o no_place) placed.is in
+    let long = header_long h is.wide in
+    let front : take 60 (pack root nodes) ≡ header_bytes h = take_at (header_bytes h) (records_in nodes) 60 long in
+    let near : h.manifest.at < 2 ^ 48 = subst (λ (p : Place). p.at < 2 ^ 48) (sym place) placed.near in
+    let short : h.manifest.len < 2 ^ 32 = subst (λ (p : Place). p.len < 2 ^ 32) (sym place) placed.short in
+    let written = header_again h is.wide (omega (arith, is.short)) (omega (arith, near)) short (omega (arith, long)) in
+    let again : header_at (take 60 (pack root nodes)) (length (pack root nodes)) ≡ Ok h = ap (λ (l : List ℕ). header_at l (length (pack root nodes))) front ∙ ap (λ (n : ℕ). header_at (header_bytes h) n) (pack_long root nodes is.wide) ∙ written in
+    let same : h ≡ header = one_ok h header (sym again ∙ read) in
+    subst (HasHeader root nodes) same (record { same = refl; is = placed.is ∙ ap (λ (p : Place). Some p) (sym place); near = near })
+  where
+    one_ok : (a b : Header) → the_ok a ≡ the_ok b → a ≡ b
+    one_ok a b e = Prim.cc
+
+-- nothing that is known is false where nothing is known
+pub none_false : {S : Type 0} (place_of : List ℕ → Option Place) (m : HashMap Digest Place S) → IsEmpty m → AreTrue place_of m
+none_false place_of m empty key place is = absurd (let none : lookup (digest_eq key) m.entries ≡ None = ap (lookup (digest_eq key)) empty in cc)
+
+-- the fault that a result has
+pub fault_is : {A : Type 0} (r : Result A PackFault) (fault : PackFault) (P : PackFault → Type 0) → IsErrAnd r (λ told. told ≡ fault) → P fault → IfErr r P
+fault_is (Ok a) fault P told is = absurd told
+fault_is (Err e) fault P told is = subst P (sym told) is

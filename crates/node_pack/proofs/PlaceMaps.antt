@@ -1,8 +1,7 @@
 -- What is known after a place is remembered.
-use Rattle.std.proofs.Common.{◌≡◌, ◌<◌, ◌⊎◌, ℕ, List, [], ◌∷◌, ◌++◌, Bool, true, false, cond, Option, Some, None, IsSome, refl, sym, ap, subst, ◌∙◌, inl, inr}
+use Rattle.std.proofs.Common.{◌≡◌, ℕ, List, [], ◌∷◌, ◌++◌, Bool, true, false, cond, Option, Some, IsSome, refl, sym, ap, subst, ◌∙◌}
 use Rattle.std.specs.HashMap.{HashMap, get, Updates}
 use Rattle.std.specs.List.{AllByRecursion}
-use Rattle.std.proofs.lemmas.Bool.{cases_Bool}
 use Rattle.tree_node.specs.Keys.{digest_eq}
 use Rattle.tree_node.specs.declared.digest.Digest.{Digest}
 use Rattle.tree_node.proofs.shared.MapLemmas.{eq_is}

@@ -1,13 +1,13 @@
 -- The bytes of places, tables and records, and what is read of them.
-use Rattle.std.proofs.Common.{◌≡◌, ◌≤◌, ◌<◌, ◌+◌, ◌*◌, ◌-◌, ◌^◌, ℕ, zero, suc, List, [], ◌∷◌, ◌++◌, Option, Some, None, length, get_or, take, drop, min, refl, sym, ap, subst, ◌∙◌, arith, append_assoc, length-append, w32, w64}
-use Rattle.std.specs.Int.{from_be_bytes, to_be_bytes}
+use Rattle.std.proofs.Common.{◌≡◌, ◌≤◌, ◌<◌, ◌+◌, ◌*◌, ◌^◌, ℕ, List, [], ◌∷◌, ◌++◌, Option, Some, length, get_or, take, drop, refl, sym, ap, subst, ◌∙◌, arith, length-append, w32, w64}
+use Rattle.std.specs.Int.{to_be_bytes}
 use Rattle.std.specs.List.{AllByRecursion}
 use Rattle.std.specs.Prelude.{unwrap_or}
 use Rattle.std.proofs.lemmas.List.{take_all, take_at, take_more, drop_at, drop_more, map-append}
 use Rattle.std.specs.HashMap.{HashMap}
 use Rattle.tree_node.proofs.shared.FieldLemmas.{wide32, wide64}
 use Rattle.tree_node.specs.declared.digest.Digest.{Digest}
-use Rattle.node_pack.specs.Known.{AreTrue, IsBetween, IsKnown, IsPlaced, IsTable}
+use Rattle.node_pack.specs.Known.{AreTrue, IsBetween, IsKnown, IsTable}
 use Rattle.node_pack.specs.Packs.{Kept, digests_of, no_place, node_in, record_bytes, record_len, table, table_in}
 use Rattle.node_pack.specs.Places.{first_place, place_bytes}
 use Rattle.node_pack.specs.declared.place.Place.{Place}
@@ -49,12 +49,12 @@ module _ (place_of : List ℕ → Option Place) (kept : Kept) (short : length ke
   pub node_again : node_in (record_bytes place_of kept) ≡ kept.bytes
   node_again =
       subst (λ (n : ℕ). take n (kept.bytes ++ table place_of kept.children) ≡ kept.bytes) (sym (wide32.again (length kept.bytes) short))
-          (take_at kept.bytes (table place_of kept.children) (length kept.bytes) refl)
+      (take_at kept.bytes (table place_of kept.children) (length kept.bytes) refl)
 
   pub table_again : table_in (record_bytes place_of kept) ≡ table place_of kept.children
   table_again =
       subst (λ (n : ℕ). drop n (kept.bytes ++ table place_of kept.children) ≡ table place_of kept.children) (sym (wide32.again (length kept.bytes) short))
-          (drop_at kept.bytes (table place_of kept.children) (length kept.bytes) refl)
+      (drop_at kept.bytes (table place_of kept.children) (length kept.bytes) refl)
 
 -- The first child of a table, whose place is at its front.
 pub record FirstOf (place_of : List ℕ → Option Place) (child : List ℕ) (children : List (List ℕ)) (rest : List ℕ) : Type 0 where

@@ -1,7 +1,7 @@
 -- What a source over a pack knows.
 -- Source: this project.
 use Rattle.std.specs.List.{AllByRecursion, Contains}
-use Rattle.std.specs.Prelude.{◌≡◌, ◌≤◌, ◌+◌, ◌⊎◌, ℕ, List, ◌++◌, Err, Ok, length, take}
+use Rattle.std.specs.Prelude.{◌≡◌, ◌≤◌, ◌+◌, ◌⊎◌, ℕ, List, ◌++◌, Err, length, take}
 use Rattle.tree_node.specs.Digests.{digest}
 use Rattle.tree_node.specs.declared.digest.Digest.{Digest}
 use Rattle.node_pack.specs.Headers.{header_at}
@@ -9,7 +9,6 @@ use Rattle.node_pack.specs.Known.{AreTrue, IsKnown}
 use Rattle.node_pack.specs.Packs.{IsPack, Kept, pack, pack_len, place_in}
 use Rattle.node_pack.specs.declared.fault.PackFault.{PackFault}
 use Rattle.node_pack.specs.declared.fault.PackFault.TheVariants.{Device, Memory}
-use Rattle.node_pack.specs.declared.header.Header.{Header}
 use Rattle.node_pack.specs.declared.source.PackSource.{PackSource}
 
 -- the file isn't opened for this: the first thing that is at fault with its header, or the device failed, or memory was refused

@@ -19,15 +19,19 @@ pub(crate) fn list_children(node: &[u8], children: &mut Vec<Digest>) -> Result<(
         return children.extend_from_slice(&[objects, tags, cells, backs]);
     }
     match NodeRef::read(node) {
-        Ok(NodeRef::Inner {
-            tree: _,
-            level: _,
-            children: links,
-        }) => list_links(links, children),
-        Ok(NodeRef::Leaf {
-            tree: _,
-            entries: _,
-        })
+        Ok(
+            NodeRef::Inner {
+                tree: _,
+                level: _,
+                children: links,
+            },
+        ) => list_links(links, children),
+        Ok(
+            NodeRef::Leaf {
+                tree: _,
+                entries: _,
+            },
+        )
         | Err(_) => Ok(()),
     }
 }

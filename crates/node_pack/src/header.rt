@@ -62,7 +62,7 @@ fn for_size(header: Header, size: u64) -> Result<Header, PackFault>
 
 /// What the fields after the version say; none where they are cut short.
 fn read_fields(bytes: &[u8]) -> Option<Header>
-    ensures { MatchOption result (length bytes.now < 52) 
+    ensures { MatchOption result (length bytes.now < 52)
         (λ header. (52 ≤ length bytes.now) × (header ≡ fields_at bytes.now)) }
 {
     let (root, rest) = bytes.split_first_chunk()?;

@@ -69,7 +69,7 @@ fn learn_places(
 }
 
 /// Remembers a place, if it is in this file.
-fn remember(
+pub(crate) fn remember(
     key: Digest,
     place: Place,
     places: &mut HashMap<Digest, Place>,

@@ -8,7 +8,7 @@ ghost use Rattle.node_pack.specs.declared.header.Header.{Header};
 
 use crate::fault::PackFault;
 use crate::header::{HEADER_LEN, read_header};
-use crate::learn::learn;
+use crate::learn::{learn, remember};
 use crate::place::Place;
 use crate::read_at::{ReadAt, ReadFault};
 use crate::record::{append_node, read_record};
@@ -52,7 +52,7 @@ impl<F: ReadAt + Drop> PackSource<F> {
         file.read_at(0, size.min(HEADER_LEN as u64) as usize, &mut buffer)?;
         let header = read_header(buffer.as_slice(), size)?;
         let mut places = HashMap::new(alloc);
-        places.insert(header.root, header.manifest)?;
+        remember(header.root, header.manifest, &mut places)?;
         Ok(PackSource {
             file,
             root: header.root,

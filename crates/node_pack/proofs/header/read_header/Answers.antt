@@ -1,4 +1,3 @@
-use Rattle.std.proofs.Common.{arith}
 use Rattle.node_pack.proofs.HeaderLemmas.{read_is}
 use Rattle.node_pack.proofs.header.read_header.Goals as goal
 

@@ -1,8 +1,7 @@
-use Rattle.std.proofs.Common.{◌≡◌, ◌<◌, ◌^◌, List, ℕ, [], Option, Some, subst, sym, ap, arith, ◌∙◌}
-use Rattle.tree_node.specs.declared.digest.Digest.{Digest}
-use Rattle.node_pack.specs.Known.{IsBetween, IsTable}
+use Rattle.std.proofs.Common.{◌<◌, ◌^◌, [], Some, subst, sym, ap, arith, ◌∙◌}
+use Rattle.node_pack.specs.Known.{IsBetween}
 use Rattle.node_pack.specs.declared.place.Place.{Place}
-use Rattle.node_pack.proofs.RecordLemmas.{next_of, one_more, all_learned, none_learned}
+use Rattle.node_pack.proofs.RecordLemmas.{next_of, one_more, none_learned}
 use Rattle.node_pack.proofs.learn.learn_places.Goals as goal
 
 pub loop-child-init : goal.loop-child-init
@@ -33,5 +32,5 @@ loop-child-preserved c = record {
       let trues = c.remember.ensures.trues place_of between.trues (first.is ∙ ap (λ (p : Place). Some p) (sym place)) in
       let known = c.in_ok-remember.ensures.known (subst (λ (p : Place). p.at < 2 ^ 48) (sym place) first.near) in
       subst (IsBetween place_of c.remember.new.places _ _) (sym c.in-Some.ensures.2)
-          (one_more place_of c.loop-child.places c.remember.new.places c.args.children.now c.loop-child.child-index (record { 0 = [] }) c.loop-child.rest.now c.loop-child-test.true between c.remember.ensures.keeps known trues);
+      (one_more place_of c.loop-child.places c.remember.new.places c.args.children.now c.loop-child.child-index (record { 0 = [] }) c.loop-child.rest.now c.loop-child-test.true between c.remember.ensures.keeps known trues);
 }
