@@ -72,12 +72,21 @@ impl ReadAt for &[u8] {
         ensures within { offset + len ≤ length self.old.now → IfErr result (λ fault. fault ≡ ReadFault.Memory) }
         ensures beyond { length self.old.now < offset + len → result ≡ Err ReadFault.Device }
     {
-        let size = self.len() as u64;
-        if offset > size || len as u64 > size - offset {
-            return Err(ReadFault::Device);
-        }
-        let start = offset as usize;
-        into.extend_from_slice(&self[start..start + len])?;
-        Ok(())
+        append_at(self, offset, len, into)
     }
+}
+
+/// Appends this many of the bytes, from an offset on.
+fn append_at(bytes: &[u8], offset: u64, len: usize, into: &mut Vec<u8>) -> Result<(), ReadFault>
+    ensures read { OnOk result (into.new.items ≡ into.old.items ++ take len (drop offset bytes.now)) }
+    ensures within { offset + len ≤ length bytes.now → IfErr result (λ fault. fault ≡ ReadFault.Memory) }
+    ensures beyond { length bytes.now < offset + len → result ≡ Err ReadFault.Device }
+{
+    let size = bytes.len() as u64;
+    if offset > size || len as u64 > size - offset {
+        return Err(ReadFault::Device);
+    }
+    let start = offset as usize;
+    into.extend_from_slice(&bytes[start..start + len])?;
+    Ok(())
 }
