@@ -4,4 +4,6 @@
 #![tactic(auto)]
 
 #[cfg(test)]
+mod packs;
+#[cfg(test)]
 mod tests;

@@ -1,0 +1,5 @@
+mod ChildLemmas
+mod HeaderLemmas
+mod PackLemmas
+mod PlaceMaps
+mod RecordLemmas

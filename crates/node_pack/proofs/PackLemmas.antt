@@ -1,0 +1,281 @@
+-- What stands where in a pack.
+use Rattle.std.proofs.Common.{◌≡◌, ◌≤◌, ◌<◌, ◌+◌, ◌-◌, ◌^◌, ◌⊎◌, inl, inr, ℕ, List, [], ◌∷◌, ◌++◌, Bool, true, false, cond, Option, Some, None, IsSome, length, take, drop, min, refl, sym, ap, subst, ◌∙◌, arith, append_assoc, length-append, length-take, w32, w64}
+use Rattle.std.specs.Int.{to_be_bytes}
+use Rattle.std.specs.HashMap.{HashMap, IsEmpty}
+use Rattle.std.specs.Map.{lookup}
+use Rattle.tree_node.specs.Keys.{digest_eq}
+use Rattle.std.specs.List.{AllByRecursion, Contains, flat_map}
+use Rattle.std.specs.Str.{bytes_eq}
+use Rattle.std.specs.Prelude.{OnOk, IfErr, IsErrAnd, Result, Ok, Err, unwrap_or}
+use Rattle.std.proofs.Math.Seq.{take-append-add}
+use Rattle.std.proofs.lemmas.Bool.{cases_order}
+use Rattle.std.proofs.lemmas.List.{drop_at, take_at, take_all, take-append-le, take-take}
+use Rattle.std.proofs.lemmas.Slice.Eq.{bytes_eq-Decides}
+use Rattle.osm_keys.proofs.shared.Members.{first_or_in_rest, here, in_rest}
+use Rattle.tree_node.specs.Digests.{digest}
+use Rattle.tree_node.specs.declared.digest.Digest.{Digest}
+use Rattle.tree_node.proofs.shared.FieldLemmas.{wide32}
+use Rattle.node_pack.specs.declared.header.TheConstants.{MAGIC, VERSION}
+use Rattle.node_pack.specs.Headers.{header_at, header_bytes}
+use Rattle.node_pack.specs.declared.fault.PackFault.{PackFault}
+use Rattle.node_pack.specs.Known.{AreTrue, IsPlaced}
+use Rattle.node_pack.specs.Packs.{HasChildren, IsKept, IsPack, Kept, no_place, node_in, pack, pack_len, place_from, place_in, record_bytes, record_len, records_in, table}
+use Rattle.node_pack.specs.Places.{at_place, place_bytes}
+use Rattle.node_pack.specs.declared.header.Header.{Header}
+use Rattle.node_pack.specs.declared.place.Place.{Place}
+use Rattle.node_pack.proofs.ChildLemmas.{few_children}
+use Rattle.node_pack.proofs.HeaderLemmas.{header_again}
+use Rattle.node_pack.proofs.RecordLemmas.{node_again, place_long, record_long}
+
+-- what is so of each of a list is so of what it contains
+pub of_each : {X : Type 0} (P : X → Type 0) (xs : List X) (x : X) → AllByRecursion P xs → Contains xs x → P x
+of_each P [] x all h = absurd (omega (arith, h.1))
+of_each P (y ∷ xs) x all h = elim (first_or_in_rest y xs x h) [ inl e ↦ subst P e all.0 | inr more ↦ of_each P xs x all.1 more ]
+
+-- The record of a node with this digest stands at this place of the bytes, before their end.
+pub record HasRecord (place_of : List ℕ → Option Place) (nodes : List Kept) (bytes key : List ℕ) (end : ℕ) (place : Place) : Type 0 where
+  pub kept : Kept
+  pub is_in : Contains nodes kept
+  pub has_digest : digest kept.bytes ≡ key
+  pub stands : at_place place bytes ≡ record_bytes place_of kept
+  pub len : place.len ≡ record_len kept
+  pub within : place.at + place.len ≤ end
+
+-- where a search among records finds a node
+by_test : (place_of : List ℕ → Option Place) (before : List ℕ) (kept : Kept) (others : List Kept) (key : List ℕ) (place : Place) (b : Bool) → bytes_eq (digest kept.bytes) key ≡ b
+    → cond b (Some (record { at = length before; len = record_len kept })) (place_from (length before + record_len kept) others key) ≡ Some place
+    → (place_from (length before + record_len kept) others key ≡ Some place
+    → HasRecord place_of others (before ++ (record_bytes place_of kept ++ flat_map (record_bytes place_of) others)) key (length before + length (record_bytes place_of kept ++ flat_map (record_bytes place_of) others)) place)
+    → HasRecord place_of (kept ∷ others) (before ++ (record_bytes place_of kept ++ flat_map (record_bytes place_of) others)) key (length before + length (record_bytes place_of kept ++ flat_map (record_bytes place_of) others)) place
+by_test place_of before kept others key place true hit is more =
+    let one = record_bytes place_of kept in
+    let rest = flat_map (record_bytes place_of) others in
+    let p : Place = record { at = length before; len = record_len kept } in
+    let same : p ≡ place = some_is p place is in
+    subst (HasRecord place_of (kept ∷ others) (before ++ (one ++ rest)) key (length before + length (one ++ rest))) same (record {
+      kept = kept;
+      is_in = here kept others;
+      has_digest = (bytes_eq-Decides (digest kept.bytes) key).0 hit;
+      stands = ap (λ (l : List ℕ). take (record_len kept) l) (drop_at before (one ++ rest) (length before) refl) ∙ take_at one rest (record_len kept) (record_long place_of kept);
+      len = refl;
+      within = omega (arith, length-append one rest, record_long place_of kept);
+    })
+  where
+    some_is : (a b : Place) → Some a ≡ Some b → a ≡ b
+    some_is a b e = Prim.cc
+by_test place_of before kept others key place false miss is more =
+    let found = more is in
+    record {
+      kept = found.kept;
+      is_in = in_rest kept others found.kept found.is_in;
+      has_digest = found.has_digest;
+      stands = found.stands;
+      len = found.len;
+      within = found.within;
+    }
+
+pub there : (place_of : List ℕ → Option Place) (before : List ℕ) (nodes : List Kept) (key : List ℕ) (place : Place) → place_from (length before) nodes key ≡ Some place
+    → HasRecord place_of nodes (before ++ flat_map (record_bytes place_of) nodes) key (length before + length (flat_map (record_bytes place_of) nodes)) place
+there place_of before [] key place is = absurd (Prim.cc)
+there place_of before (kept ∷ others) key place is =
+    let one = record_bytes place_of kept in
+    let rest = flat_map (record_bytes place_of) others in
+    by_test place_of before kept others key place (bytes_eq (digest kept.bytes) key) refl is (λ later.
+    let longer : length (before ++ one) ≡ length before + record_len kept = length-append before one ∙ ap (λ (n : ℕ). length before + n) (record_long place_of kept) in
+    let found = there place_of (before ++ one) others key place (ap (λ (n : ℕ). place_from n others key) longer ∙ later) in
+    let whole : (before ++ one) ++ rest ≡ before ++ (one ++ rest) = append_assoc before one rest in
+    record {
+      kept = found.kept;
+      is_in = found.is_in;
+      has_digest = found.has_digest;
+      stands = ap (at_place place) (sym whole) ∙ found.stands;
+      len = found.len;
+      within = omega (arith, found.within, length-append before one, length-append one rest);
+    })
+
+header_long : (h : Header) → length h.root.0 ≡ 32 → length (header_bytes h) ≡ 60
+header_long h wide =
+    omega (
+      arith,
+      length-append (to_be_bytes w32 MAGIC) (to_be_bytes w32 VERSION ++ (h.root.0 ++ (to_be_bytes w64 h.size ++ place_bytes h.manifest))),
+      length-append (to_be_bytes w32 VERSION) (h.root.0 ++ (to_be_bytes w64 h.size ++ place_bytes h.manifest)),
+      length-append h.root.0 (to_be_bytes w64 h.size ++ place_bytes h.manifest),
+      length-append (to_be_bytes w64 h.size) (place_bytes h.manifest),
+      place_long h.manifest,
+      wide,
+    )
+
+-- in a pack
+pub in_pack : (root : List ℕ) (nodes : List Kept) (key : List ℕ) (place : Place) → length root ≡ 32 → place_in nodes key ≡ Some place
+    → HasRecord (place_in nodes) nodes (pack root nodes) key (pack_len nodes) place
+unfolding pack
+in_pack root nodes key place wide is =
+    let header : Header = record { root = record { 0 = root }; size = pack_len nodes; manifest = unwrap_or (place_in nodes root) no_place } in
+    let long : length (header_bytes header) ≡ 60 = header_long header wide in
+    let found = there (place_in nodes) (header_bytes header) nodes key place (ap (λ (n : ℕ). place_from n nodes key) long ∙ is) in
+    subst (λ (n : ℕ). HasRecord (place_in nodes) nodes (header_bytes header ++ records_in nodes) key (n + length (records_in nodes)) place) long found
+
+-- the children of its nodes have places
+pub are_placed : (root : List ℕ) (nodes : List Kept) → IsPack (pack root nodes) root nodes → (keys : List (List ℕ)) → AllByRecursion (λ (key : List ℕ). IsSome (place_in nodes key)) keys
+    → AllByRecursion (IsPlaced (place_in nodes)) keys
+are_placed root nodes is [] all = tt
+are_placed root nodes is (key ∷ keys) all = (one (place_in nodes key) refl all.0, are_placed root nodes is keys all.1)
+  where
+    one : (o : Option Place) → place_in nodes key ≡ o → IsSome o → IsPlaced (place_in nodes) key
+    one None none some = absurd (Prim.cc)
+    one (Some place) found some =
+        let has = in_pack root nodes key place is.wide found in
+        let short = (of_each (IsKept nodes) nodes has.kept is.kept has.is_in).short in
+        record {
+          place = place;
+          is = found;
+          near = omega (arith, has.within, has.len, is.short);
+          short = omega (arith, has.len, short);
+        }
+
+-- ---- what is read at a place
+
+-- of a record that is cut off after more than so many bytes of its node
+module _ (place_of : List ℕ → Option Place) (kept : Kept) (short : length kept.bytes < 2 ^ 32) (most k : ℕ) (much : most + 1 ≤ k) (long : most < length kept.bytes) where
+  body : List ℕ
+  body = kept.bytes ++ table place_of kept.children
+
+  cut_node : node_in (take (4 + k) (record_bytes place_of kept)) ≡ take (length kept.bytes) (take k (kept.bytes ++ table place_of kept.children))
+  cut_node =
+      ap node_in (take-append-add (to_be_bytes w32 (length kept.bytes)) (kept.bytes ++ table place_of kept.children) k)
+      ∙ ap (λ (n : ℕ). take n (take k (kept.bytes ++ table place_of kept.children))) (wide32.again (length kept.bytes) short)
+
+  pub cut_front : take (most + 1) (node_in (take (4 + k) (record_bytes place_of kept))) ≡ take (most + 1) kept.bytes
+  cut_front =
+      ap (take (most + 1)) cut_node
+      ∙ take-take (most + 1) (length kept.bytes) (take k (kept.bytes ++ table place_of kept.children)) (omega arith)
+      ∙ take-take (most + 1) k (kept.bytes ++ table place_of kept.children) much
+      ∙ take-append-le (most + 1) kept.bytes (table place_of kept.children) (omega arith)
+
+  pub cut_long : most < length (node_in (take (4 + k) (record_bytes place_of kept)))
+  cut_long =
+      let e = ap length cut_node in
+      omega (
+        arith,
+        e,
+        length-take (length kept.bytes) (take k (kept.bytes ++ table place_of kept.children)),
+        length-take k (kept.bytes ++ table place_of kept.children),
+        length-append kept.bytes (table place_of kept.children),
+      )
+
+-- What was read at the place of a node, for at most so many bytes.
+pub record ReadKept (nodes : List Kept) (key : List ℕ) (most : ℕ) (bytes : List ℕ) : Type 0 where
+  pub kept : Kept
+  pub is_in : Contains nodes kept
+  pub has_digest : digest kept.bytes ≡ key
+  pub front : take (most + 1) (node_in bytes) ≡ take (most + 1) kept.bytes
+  pub whole : length kept.bytes ≤ most → bytes ≡ record_bytes (place_in nodes) kept
+  pub long : most < length kept.bytes → most < length (node_in bytes)
+  pub children : HasChildren kept.bytes kept.children
+  pub placed : AllByRecursion (IsPlaced (place_in nodes)) kept.children
+  pub short : length kept.bytes < 2 ^ 32
+
+pub less_or_more : (a b : ℕ) → (a ≤ b) ⊎ (b < a)
+less_or_more a b =
+    elim (cases_order a b) [
+      | inl same ↦ inl (omega (arith, same))
+      | inr (inl less) ↦ inl (omega (arith, less))
+      | inr (inr more) ↦ inr more
+    ]
+
+pub read_kept : (root : List ℕ) (nodes : List Kept) (key : List ℕ) (place : Place) (most : ℕ) (bytes : List ℕ) → IsPack (pack root nodes) root nodes → place_in nodes key ≡ Some place
+    → bytes ≡ take (min place.len (most + 772)) (drop place.at (pack root nodes)) → ReadKept nodes key most bytes
+read_kept root nodes key place most bytes is found read =
+    let has = in_pack root nodes key place is.wide found in
+    let own = of_each (IsKept nodes) nodes has.kept is.kept has.is_in in
+    let few = few_children has.kept.bytes has.kept.children own.children in
+    let short : length has.kept.bytes < 2 ^ 32 = omega (arith, own.short) in
+    let record_of = record_bytes (place_in nodes) has.kept in
+    let cut : bytes ≡ take (min place.len (most + 772)) record_of =
+    read ∙ sym (take-take (min place.len (most + 772)) place.len (drop place.at (pack root nodes)) (omega arith)) ∙ ap (λ (l : List ℕ). take (min place.len (most + 772)) l) has.stands in
+    let whole : length has.kept.bytes ≤ most → bytes ≡ record_of = λ le.
+    cut ∙ take_all (min place.len (most + 772)) record_of (omega (arith, record_long (place_in nodes) has.kept, has.len, few, le)) in
+    let more : most < length has.kept.bytes → (k : ℕ) × (most + 1 ≤ k) × (4 + k ≡ min place.len (most + 772)) = λ lt.
+    (min place.len (most + 772) - 4, omega (arith, has.len, lt), omega (arith, has.len, lt)) in
+    record {
+      kept = has.kept;
+      is_in = has.is_in;
+      has_digest = has.has_digest;
+      front = elim (less_or_more (length has.kept.bytes) most) [
+        | inl le ↦ ap (λ (l : List ℕ). take (most + 1) (node_in l)) (whole le) ∙ ap (take (most + 1)) (node_again (place_in nodes) has.kept short)
+        | inr lt ↦
+            let (k, much, e) = more lt in
+            ap (λ (l : List ℕ). take (most + 1) (node_in l)) (cut ∙ ap (λ (n : ℕ). take n record_of) (sym e)) ∙ cut_front (place_in nodes) has.kept short most k much lt
+      ];
+      whole = whole;
+      long = λ lt.
+          let (k, much, e) = more lt in
+          subst (λ (l : List ℕ). most < length (node_in l)) (sym (cut ∙ ap (λ (n : ℕ). take n record_of) (sym e))) (cut_long (place_in nodes) has.kept short most k much lt);
+      children = own.children;
+      placed = are_placed root nodes is has.kept.children own.closed;
+      short = short;
+    }
+
+-- what follows of a result that is Ok
+pub on_ok : {A E : Type 0} {P Q : Type 0} (r : Result A E) → OnOk r P → (P → Q) → OnOk r Q
+on_ok (Ok a) p f = f p
+on_ok (Err e) p f = tt
+
+-- what is known stays true after a record was read, whether its node was too long to learn from or not
+pub trues_after : {S : Type 0} (nodes : List Kept) (key : List ℕ) (most : ℕ) (bytes : List ℕ) (m n : HashMap Digest Place S) → ReadKept nodes key most bytes → AreTrue (place_in nodes) m
+    → (most < length (node_in bytes) → n ≡ m)
+    → ((place_of : List ℕ → Option Place) (kept : Kept) → AreTrue place_of m → bytes ≡ record_bytes place_of kept → HasChildren kept.bytes kept.children
+    → AllByRecursion (IsPlaced place_of) kept.children → length kept.bytes < 2 ^ 32 → AreTrue place_of n)
+    → AreTrue (place_in nodes) n
+trues_after {S = S} nodes key most bytes m n read old same learned =
+    elim (less_or_more (length read.kept.bytes) most) [
+      | inl le ↦ learned (place_in nodes) read.kept old (read.whole le) read.children read.placed read.short
+      | inr lt ↦ subst (λ (places : HashMap Digest Place S). AreTrue (place_in nodes) places) (sym (same (read.long lt))) old
+    ]
+
+-- Ok of a header
+abbrev the_ok : Header → Result Header PackFault
+the_ok h = Ok h
+
+-- the header of a pack
+abbrev pub header_in : List ℕ → List Kept → Header
+header_in root nodes = record { root = record { 0 = root }; size = pack_len nodes; manifest = unwrap_or (place_in nodes root) no_place }
+
+-- What is read of the header of a pack.
+pub record HasHeader (root : List ℕ) (nodes : List Kept) (header : Header) : Type 0 where
+  pub same : header.root.0 ≡ root
+  pub is : place_in nodes header.root.0 ≡ Some header.manifest
+  pub near : header.manifest.at < 2 ^ 48
+
+pub pack_long : (root : List ℕ) (nodes : List Kept) → length root ≡ 32 → length (pack root nodes) ≡ pack_len nodes
+unfolding pack
+pack_long root nodes wide =
+    omega (arith, length-append (header_bytes (header_in root nodes)) (records_in nodes), header_long (header_in root nodes) wide)
+
+pub has_header : (root : List ℕ) (nodes : List Kept) (header : Header) → IsPack (pack root nodes) root nodes → header_at (take 60 (pack root nodes)) (length (pack root nodes)) ≡ Ok header
+    → HasHeader root nodes header
+unfolding pack
+has_header root nodes header is read =
+    let h = header_in root nodes in
+    let placed = (are_placed root nodes is (root ∷ []) (is.rooted, tt)).0 in
+    let place : h.manifest ≡ placed.place = ap (λ (o : Option Place). unwrap_or o no_place) placed.is in
+    let long = header_long h is.wide in
+    let front : take 60 (pack root nodes) ≡ header_bytes h = take_at (header_bytes h) (records_in nodes) 60 long in
+    let near : h.manifest.at < 2 ^ 48 = subst (λ (p : Place). p.at < 2 ^ 48) (sym place) placed.near in
+    let short : h.manifest.len < 2 ^ 32 = subst (λ (p : Place). p.len < 2 ^ 32) (sym place) placed.short in
+    let written = header_again h is.wide (omega (arith, is.short)) (omega (arith, near)) short (omega (arith, long)) in
+    let again : header_at (take 60 (pack root nodes)) (length (pack root nodes)) ≡ Ok h = ap (λ (l : List ℕ). header_at l (length (pack root nodes))) front ∙ ap (λ (n : ℕ). header_at (header_bytes h) n) (pack_long root nodes is.wide) ∙ written in
+    let same : h ≡ header = one_ok h header (sym again ∙ read) in
+    subst (HasHeader root nodes) same (record { same = refl; is = placed.is ∙ ap (λ (p : Place). Some p) (sym place); near = near })
+  where
+    one_ok : (a b : Header) → the_ok a ≡ the_ok b → a ≡ b
+    one_ok a b e = Prim.cc
+
+-- nothing that is known is false where nothing is known
+pub none_false : {S : Type 0} (place_of : List ℕ → Option Place) (m : HashMap Digest Place S) → IsEmpty m → AreTrue place_of m
+none_false place_of m empty key place is = absurd (let none : lookup (digest_eq key) m.entries ≡ None = ap (lookup (digest_eq key)) empty in cc)
+
+-- the fault that a result has
+pub fault_is : {A : Type 0} (r : Result A PackFault) (fault : PackFault) (P : PackFault → Type 0) → IsErrAnd r (λ told. told ≡ fault) → P fault → IfErr r P
+fault_is (Ok a) fault P told is = absurd told
+fault_is (Err e) fault P told is = subst P (sym told) is

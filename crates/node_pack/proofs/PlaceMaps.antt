@@ -1,0 +1,43 @@
+-- What is known after a place is remembered.
+use Rattle.std.proofs.Common.{◌≡◌, ℕ, List, [], ◌∷◌, ◌++◌, Bool, true, false, cond, Option, Some, IsSome, refl, sym, ap, subst, ◌∙◌}
+use Rattle.std.specs.HashMap.{HashMap, get, Updates}
+use Rattle.std.specs.List.{AllByRecursion}
+use Rattle.tree_node.specs.Keys.{digest_eq}
+use Rattle.tree_node.specs.declared.digest.Digest.{Digest}
+use Rattle.tree_node.proofs.shared.MapLemmas.{eq_is}
+use Rattle.node_pack.specs.Known.{AreTrue, IsKnown, key_with}
+use Rattle.node_pack.specs.declared.place.Place.{Place}
+
+-- an option has one value
+one_value : (a b : Place) → Some a ≡ Some b → a ≡ b
+one_value a b e = Prim.cc
+
+some_either : (b : Bool) (p : Place) (o : Option Place) → IsSome o → IsSome (cond b (Some p) o)
+some_either true p o h = refl
+some_either false p o h = h
+
+module _ {S : Type 0} (m n : HashMap Digest Place S) (k : Digest) (p : Place) (up : Updates digest_eq m n k (Some p)) where
+  -- what was known is known
+  pub known_stays : (other : List ℕ) → IsKnown m other → IsKnown n other
+  known_stays other known =
+      subst (λ (o : Option Place). IsSome o) (sym (up.0 (key_with other))) (some_either (digest_eq k (key_with other)) p (get digest_eq m (key_with other)) known)
+
+  true_by : (place_of : List ℕ → Option Place) (q : Digest) (x : Place) (b : Bool) → digest_eq k q ≡ b → cond b (Some p) (get digest_eq m q) ≡ Some x
+      → AreTrue place_of m → place_of k.0 ≡ Some p → place_of q.0 ≡ Some x
+  true_by place_of q x true hit is old here = ap (λ (d : Digest). place_of d.0) (sym (eq_is k q hit)) ∙ here ∙ is
+  true_by place_of q x false miss is old here = old q x is
+
+  -- where what was known is true, and what is remembered too, all is true
+  pub trues_stay : (place_of : List ℕ → Option Place) → AreTrue place_of m → place_of k.0 ≡ Some p → AreTrue place_of n
+  trues_stay place_of old here q x is = true_by place_of q x (digest_eq k q) refl (sym (up.0 q) ∙ is) old here
+
+-- all that is known stays known
+pub all_known_stay : {S : Type 0} (m n : HashMap Digest Place S) → ((key : List ℕ) → IsKnown m key → IsKnown n key)
+    → (keys : List (List ℕ)) → AllByRecursion (IsKnown m) keys → AllByRecursion (IsKnown n) keys
+all_known_stay m n keeps [] all = tt
+all_known_stay m n keeps (key ∷ keys) all = (keeps key all.0, all_known_stay m n keeps keys all.1)
+
+-- what is so of each of a list, and of one more
+pub all_and : (P : List ℕ → Type 0) (keys : List (List ℕ)) (key : List ℕ) → AllByRecursion P keys → P key → AllByRecursion P (keys ++ key ∷ [])
+all_and P [] key all one = (one, tt)
+all_and P (x ∷ keys) key all one = (all.0, all_and P keys key all.1 one)

@@ -1,0 +1,6 @@
+pub mod Faults
+pub mod Headers
+pub mod Known
+pub mod Packs
+pub mod Places
+pub mod Sources

@@ -1,0 +1,86 @@
+//! Where the children of a node stand.
+
+ghost use Rattle.std.specs.List.{AllByRecursion};
+ghost use Rattle.std.specs.Prelude.{◌≡◌, ◌≤◌, ◌<◌, ◌^◌, ℕ, List, OnOk, Option, length};
+ghost use Rattle.node_pack.specs.Known.{AreTrue, IsKnown, IsPlaced, IsTable};
+ghost use Rattle.node_pack.specs.Packs.{HasChildren, Kept, digests_of, node_in, record_bytes};
+ghost use Rattle.node_pack.specs.declared.place.Place.{Place};
+
+use crate::children::list_children;
+use crate::place::Place;
+use crate::read_at::ReadFault;
+use crate::record::split_record;
+use std::collections::HashMap;
+use tree_node::Digest;
+
+/// The offsets of other files begin here, 2^48.
+pub const FILE_LIMIT: u64 = 281_474_976_710_656;
+
+/// Remembers where the children of a record's node stand in this file, if the node has no more than so many bytes. Their digests
+/// are listed in `children` meanwhile.
+pub(crate) fn learn(
+    bytes: &[u8],
+    at_most: usize,
+    children: &mut Vec<Digest>,
+    places: &mut HashMap<Digest, Place>,
+) -> Result<(), ReadFault>
+    ensures keeps { (key : List ℕ) → IsKnown places.old key → IsKnown places.new key }
+    ensures long { at_most < length (node_in bytes.now) → places.new ≡ places.old }
+    ensures trues { (place_of : List ℕ → Option Place) (kept : Kept) → AreTrue place_of places.old
+        → bytes.now ≡ record_bytes place_of kept → HasChildren kept.bytes kept.children
+        → AllByRecursion (IsPlaced place_of) kept.children → length kept.bytes < 2 ^ 32
+        → AreTrue place_of places.new }
+    ensures learned { (place_of : List ℕ → Option Place) (kept : Kept) → AreTrue place_of places.old
+        → bytes.now ≡ record_bytes place_of kept → HasChildren kept.bytes kept.children
+        → AllByRecursion (IsPlaced place_of) kept.children → length kept.bytes < 2 ^ 32
+        → length kept.bytes ≤ at_most
+        → OnOk result (AllByRecursion (IsKnown places.new) kept.children) }
+{
+    let (node, table) = split_record(bytes);
+    if node.len() > at_most {
+        return Ok(());
+    }
+    list_children(node, children)?;
+    learn_places(children.as_slice(), table, places)
+}
+
+/// Remembers the places of these children in this file, as many as the table has.
+fn learn_places(
+    children: &[Digest],
+    table: &[u8],
+    places: &mut HashMap<Digest, Place>,
+) -> Result<(), ReadFault>
+    ensures keeps { (key : List ℕ) → IsKnown places.old key → IsKnown places.new key }
+    ensures trues { (place_of : List ℕ → Option Place) → AreTrue place_of places.old
+        → IsTable place_of (digests_of children.now) table.now → AreTrue place_of places.new }
+    ensures learned { (place_of : List ℕ → Option Place) → AreTrue place_of places.old
+        → IsTable place_of (digests_of children.now) table.now
+        → OnOk result (AllByRecursion (IsKnown places.new) (digests_of children.now)) }
+{
+    let mut rest = table;
+    for child in children {
+        let Some((place, after)) = Place::split(rest) else {
+            return Ok(());
+        };
+        remember(*child, place, places)?;
+        rest = after;
+    }
+    Ok(())
+}
+
+/// Remembers a place, if it is in this file.
+pub(crate) fn remember(
+    key: Digest,
+    place: Place,
+    places: &mut HashMap<Digest, Place>,
+) -> Result<(), ReadFault>
+    ensures keeps { (other : List ℕ) → IsKnown places.old other → IsKnown places.new other }
+    ensures trues { (place_of : List ℕ → Option Place) → AreTrue place_of places.old
+        → place_of key.0 ≡ Some place → AreTrue place_of places.new }
+    ensures known { place.at < 2 ^ 48 → OnOk result (IsKnown places.new key.0) }
+{
+    if place.at < FILE_LIMIT {
+        places.insert(key, place)?;
+    }
+    Ok(())
+}

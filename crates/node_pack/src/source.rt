@@ -1,0 +1,154 @@
+//! A source of nodes over a pack.
+
+ghost use Rattle.std.specs.Prelude.{◌≡◌, ◌≤◌, ◌++◌, ◌+◌, ◌↔◌, ℕ, Err, IfErr, IfOk, List, OnErr, OnOk, length, take};
+ghost use Rattle.node_pack.specs.Faults.{source_fault_of};
+ghost use Rattle.node_pack.specs.Headers.{header_at};
+ghost use Rattle.node_pack.specs.Packs.{IsPack, Kept, node_in, pack, place_in};
+ghost use Rattle.node_pack.specs.declared.header.Header.{Header};
+
+use crate::fault::PackFault;
+use crate::header::{HEADER_LEN, read_header};
+use crate::learn::{learn, remember};
+use crate::place::Place;
+use crate::read_at::{ReadAt, ReadFault};
+use crate::record::{append_node, read_record};
+use outside_shelf::{NodeSource, SourceFault};
+use std::alloc::Global;
+use std::collections::HashMap;
+use tree_node::Digest;
+
+/// Gives the nodes of a pack by their digests: first that of the root, and of each node that it gave the children. It keeps
+/// their places, and reads a node whenever it is asked for it, in one read of its record.
+///
+/// Nothing in the file is trusted. Whatever it has, a call ends, and takes no more memory than the file has bytes, or than
+/// the node may have that was asked for.
+#[derive(Drop)]
+pub struct PackSource<F: ReadAt + Drop> {
+    file: F,
+    root: Digest,
+    size: u64,
+    places: HashMap<Digest, Place>,
+    buffer: Vec<u8>,
+    children: Vec<Digest>,
+}
+
+impl<F: ReadAt + Drop> PackSource<F> {
+    ghost use Rattle.node_pack.specs.Sources.{GivesKept, IsOpenFault, IsOver, Knows, last_record, root_in};
+
+    /// Reads the header of a pack. What the source needs later comes from `alloc` too.
+    pub fn open(alloc: Global, mut file: F) -> Result<PackSource<F>, PackFault>
+        // Of a pack it knows where the node with the root is.
+        ensures over { (root : List ℕ) (nodes : List Kept) → F.reads file (pack root nodes)
+            → IsPack (pack root nodes) root nodes
+            → IfOk result (λ source. IsOver F.reads source root nodes × Knows source root) }
+        // The header is that of the file, which has as many bytes as it states,
+        ensures header { (bytes : List ℕ) → F.reads file bytes → IfOk result (λ source. (header : Header)
+            × (header_at (take 60 bytes) (length bytes) ≡ Ok header) × (root_in source ≡ header.root)) }
+        // or the first thing that is at fault is told, unless the device fails or memory is refused.
+        ensures refused { (bytes : List ℕ) → F.reads file bytes → IfErr result (IsOpenFault bytes) }
+    {
+        let size = file.size()?;
+        let mut buffer = Vec::new(alloc);
+        file.read_at(0, size.min(HEADER_LEN as u64) as usize, &mut buffer)?;
+        let header = read_header(buffer.as_slice(), size)?;
+        let mut places = HashMap::new(alloc);
+        remember(header.root, header.manifest, &mut places)?;
+        Ok(PackSource {
+            file,
+            root: header.root,
+            size,
+            places,
+            buffer,
+            children: Vec::new(alloc),
+        })
+    }
+
+    /// The root that the header states.
+    pub fn root(&self) -> Digest
+        ensures { result ≡ root_in self.now }
+    {
+        self.root
+    }
+
+    /// Appends the node whose record stands at this place, and remembers where its children stand.
+    fn give(&mut self, place: Place, at_most: usize, into: &mut Vec<u8>) -> Result<(), ReadFault>
+        ensures appended { OnOk result
+            (into.new.items ≡ into.old.items ++ take (at_most + 1) (node_in (last_record self.new))) }
+        ensures unchanged { OnErr result (into.new.items ≡ into.old.items) }
+        ensures root { root_in self.new ≡ root_in self.old }
+        ensures keeps { (key : List ℕ) → Knows self.old key → Knows self.new key }
+        ensures over { (root key : List ℕ) (nodes : List Kept) → IsOver F.reads self.old root nodes
+            → place_in nodes key ≡ Some place → IsOver F.reads self.new root nodes }
+        ensures given { (root key : List ℕ) (nodes : List Kept) → IsOver F.reads self.old root nodes
+            → place_in nodes key ≡ Some place
+            → OnOk result (GivesKept nodes key at_most into.old.items into.new.items (Knows self.new)) }
+    {
+        read_record(&mut self.file, self.size, place, at_most, &mut self.buffer)?;
+        learn(
+            self.buffer.as_slice(),
+            at_most,
+            &mut self.children,
+            &mut self.places,
+        )?;
+        append_node(self.buffer.as_slice(), at_most, into)
+    }
+}
+
+/// What a refused read is to who asks for a node.
+fn source_fault(fault: ReadFault) -> SourceFault
+    ensures { result ≡ source_fault_of fault }
+{
+    match fault {
+        ReadFault::Device => SourceFault::Device,
+        ReadFault::Memory => SourceFault::Memory,
+    }
+}
+
+impl<F: ReadAt + Drop> NodeSource for PackSource<F> {
+    ghost use Rattle.node_pack.specs.Sources.{GivesKept, IsOver, Knows, last_record, root_in};
+    ghost use Rattle.outside_shelf.specs.declared.source.SourceFault.TheVariants.{Absent};
+
+    /// Of a node that is longer than `at_most` bytes it appends one byte more. The children of a node that isn't longer are
+    /// known from then on.
+    ///
+    /// Refused with `Absent` where it doesn't know the place of the node, with `Device` where the device fails or the file ends
+    /// before the record does, and where memory is refused.
+    fn read_node(
+        &mut self,
+        key: &Digest,
+        at_most: usize,
+        into: &mut Vec<u8>,
+    ) -> Result<(), SourceFault>
+        // What is given is the node of the record that was read.
+        ensures appended { OnOk result
+            (into.new.items ≡ into.old.items ++ take (at_most + 1) (node_in (last_record self.new))) }
+        ensures unchanged { OnErr result (into.new.items ≡ into.old.items) }
+        ensures root { root_in self.new ≡ root_in self.old }
+        // Only the node whose place it doesn't know is absent,
+        ensures absent { (result ≡ Err Absent) ↔ (¬ Knows self.old key.now.0) }
+        // and it forgets no place.
+        ensures keeps { (key : List ℕ) → Knows self.old key → Knows self.new key }
+        // Over a pack it gives the node with the digest, and knows its children from then on.
+        ensures over { (root : List ℕ) (nodes : List Kept) → IsOver F.reads self.old root nodes
+            → IsOver F.reads self.new root nodes }
+        ensures given { (root : List ℕ) (nodes : List Kept) → IsOver F.reads self.old root nodes
+            → OnOk result (GivesKept nodes key.now.0 at_most into.old.items into.new.items (Knows self.new)) }
+    {
+        let Some(place) = self.places.get(key) else {
+            return Err(SourceFault::Absent);
+        };
+        let place = *place;
+        match self.give(place, at_most, into) {
+            Ok(()) => Ok(()),
+            Err(fault) => Err(source_fault(fault)),
+        }
+    }
+
+    /// It takes no hint.
+    fn announce(&mut self, _top: &Digest, _lo: &[u8], _hi: &[u8])
+        ensures root { root_in self.new ≡ root_in self.old }
+        ensures keeps { (key : List ℕ) → Knows self.old key → Knows self.new key }
+        ensures over { (root : List ℕ) (nodes : List Kept) → IsOver F.reads self.old root nodes
+            → IsOver F.reads self.new root nodes }
+    {}
+}

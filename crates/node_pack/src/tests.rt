@@ -1,0 +1,321 @@
+//! A small pack, as it is, with each bit turned, cut, and on devices that fail.
+
+use crate::{PackFault, PackSource, ReadAt, ReadFault};
+use bumpalo::Bump;
+use outside_shelf::{NodeSource, OutsideShelf, Refused, SourceFault};
+use std::alloc::Global;
+use std::fs::File;
+use std::process::Abort;
+use std::test::Fail;
+use tree_node::{Digest, Shelf, digest_of};
+
+/// A pack that tests/system/packs.py made: the manifest of edition 1 over the tree of tags with the keys `a` and `b`, a leaf
+/// each, and three empty trees.
+const PACK: &[u8] =
+    b"\x4f\x53\x4d\x4b\x00\x01\x00\x00\x61\xff\x96\x25\xd8\x5d\x53\x00\xd6\x77\x01\x61\x60\x04\x78\xb8\x4d\xcd\x5a\x86\x6e\x3a\xfe\xdd\x31\x50\x66\xfa\x05\x67\x0c\xef\x00\x00\x00\x00\x00\x00\x01\xa1\x00\x00\x00\x00\x00\x00\x00\x3c\x00\x00\x00\xb9\x00\x00\x00\x85\x4f\x53\x4d\x4d\x01\x67\xab\xdd\x72\x10\x24\xf0\xff\x4e\x0b\x3f\x4c\x2f\xc1\x3b\xc5\xba\xd4\x2d\x0b\x78\x51\xd4\x56\xd8\x8d\x20\x3d\x15\xaa\xa4\x50\x17\x27\xe7\xf2\xf1\x68\x1d\x46\x2e\xbc\x7d\xf0\x02\x4c\x97\xec\x1e\xf2\x44\x9f\x64\x54\xa1\x17\x74\x36\xee\x3a\x26\x4a\x67\x83\x9d\x9f\x29\x05\x27\xa6\xbe\x62\x6a\x8f\x59\x85\xb2\x6e\x19\xb2\x37\xb4\x48\x72\xb0\x36\x31\x81\x1d\xf4\x41\x6f\xc1\x71\x31\x78\xfb\x5e\x51\x24\x25\xfc\x94\x49\x31\x6e\xc9\x59\x69\xeb\xe7\x1e\x2d\x57\x6d\xba\xb8\x33\xd6\x1e\x2a\x5b\x93\x30\xfd\x70\xee\x02\x00\x00\x00\x00\x00\x00\x01\x6b\x00\x00\x00\x08\x00\x00\x00\x00\x00\x00\x00\xf5\x00\x00\x00\x76\x00\x00\x00\x00\x00\x00\x01\x91\x00\x00\x00\x08\x00\x00\x00\x00\x00\x00\x01\x99\x00\x00\x00\x08\x00\x00\x00\x5a\x02\x01\x00\x02\x00\x01\x61\x00\x00\x00\x00\x00\x00\x00\x01\xba\x43\x7a\x7a\xbc\xcc\x0d\x72\x3d\x3a\x2e\xad\x95\x07\x22\xbf\x1c\x12\x59\x4a\x18\xdc\xc2\x41\xc7\xa4\xaf\xe1\xa5\x35\x7d\xfe\x00\x01\x62\x00\x00\x00\x00\x00\x00\x00\x01\x92\x53\xd5\xfb\x6e\x17\x2d\x68\x0c\x9c\x90\x4d\x3d\xa7\x5f\x65\x67\x5b\x6e\xe3\xb0\x82\x49\x08\x09\x3d\xd6\x82\xf2\x7d\x0d\xaf\x00\x00\x00\x00\x00\x00\x01\x73\x00\x00\x00\x0f\x00\x00\x00\x00\x00\x00\x01\x82\x00\x00\x00\x0f\x00\x00\x00\x04\x01\x00\x00\x00\x00\x00\x00\x0b\x02\x00\x00\x01\x00\x01\x61\x00\x00\x00\x00\x00\x00\x00\x0b\x02\x00\x00\x01\x00\x01\x62\x00\x00\x00\x00\x00\x00\x00\x04\x03\x00\x00\x00\x00\x00\x00\x04\x04\x00\x00\x00";
+
+/// How many bytes the pack has, of which 60 are its header.
+const LEN: usize = 417;
+
+/// Its root.
+const ROOT: Digest = Digest(
+    *b"\x61\xff\x96\x25\xd8\x5d\x53\x00\xd6\x77\x01\x61\x60\x04\x78\xb8\x4d\xcd\x5a\x86\x6e\x3a\xfe\xdd\x31\x50\x66\xfa\x05\x67\x0c\xef",
+);
+
+/// The digests of its nodes, and where they stand in the pack: the manifest, the top of the tree of tags, the empty tree of objects, both
+/// leaves, and two empty trees.
+const NODES: [(Digest, usize, usize); 7] = [
+    (ROOT, 64, 133),
+    (
+        Digest(
+            *b"\x17\x27\xe7\xf2\xf1\x68\x1d\x46\x2e\xbc\x7d\xf0\x02\x4c\x97\xec\x1e\xf2\x44\x9f\x64\x54\xa1\x17\x74\x36\xee\x3a\x26\x4a\x67\x83",
+        ),
+        249,
+        90,
+    ),
+    (
+        Digest(
+            *b"\x67\xab\xdd\x72\x10\x24\xf0\xff\x4e\x0b\x3f\x4c\x2f\xc1\x3b\xc5\xba\xd4\x2d\x0b\x78\x51\xd4\x56\xd8\x8d\x20\x3d\x15\xaa\xa4\x50",
+        ),
+        367,
+        4,
+    ),
+    (
+        Digest(
+            *b"\xba\x43\x7a\x7a\xbc\xcc\x0d\x72\x3d\x3a\x2e\xad\x95\x07\x22\xbf\x1c\x12\x59\x4a\x18\xdc\xc2\x41\xc7\xa4\xaf\xe1\xa5\x35\x7d\xfe",
+        ),
+        375,
+        11,
+    ),
+    (
+        Digest(
+            *b"\x92\x53\xd5\xfb\x6e\x17\x2d\x68\x0c\x9c\x90\x4d\x3d\xa7\x5f\x65\x67\x5b\x6e\xe3\xb0\x82\x49\x08\x09\x3d\xd6\x82\xf2\x7d\x0d\xaf",
+        ),
+        390,
+        11,
+    ),
+    (
+        Digest(
+            *b"\x9d\x9f\x29\x05\x27\xa6\xbe\x62\x6a\x8f\x59\x85\xb2\x6e\x19\xb2\x37\xb4\x48\x72\xb0\x36\x31\x81\x1d\xf4\x41\x6f\xc1\x71\x31\x78",
+        ),
+        405,
+        4,
+    ),
+    (
+        Digest(
+            *b"\xfb\x5e\x51\x24\x25\xfc\x94\x49\x31\x6e\xc9\x59\x69\xeb\xe7\x1e\x2d\x57\x6d\xba\xb8\x33\xd6\x1e\x2a\x5b\x93\x30\xfd\x70\xee\x02",
+        ),
+        413,
+        4,
+    ),
+];
+
+/// The bytes of a node.
+fn node_at(place: &(Digest, usize, usize)) -> &'static [u8] {
+    &PACK[place.1..place.1 + place.2]
+}
+
+/// Every node is given from the root down, and none before its parent.
+#[test]
+fn gives_a_pack(rt: HostRuntime) -> Result<(), Fail> {
+    let arena = Bump::new(rt.alloc());
+    let source = PackSource::open(rt.alloc(), PACK)?;
+    assert!(rt; source.root() == ROOT);
+    let mut shelf = OutsideShelf::new(rt.alloc(), &arena, source, None);
+    for place in &NODES[1..] {
+        assert!(rt; shelf.fetch(&place.0).is_err());
+        assert_eq!(rt; shelf.refused(), Some(Refused::Absent));
+    }
+    for place in &NODES {
+        assert!(rt; shelf.fetch(&place.0) == Ok(node_at(place)));
+    }
+    Ok(())
+}
+
+/// The byte at a place turned into another.
+fn changed(alloc: Global, at: usize, byte: u8) -> Result<Vec<u8>, Fail> {
+    let mut pack = PACK.to_vec(alloc)?;
+    if let Some(old) = pack.as_mut_slice().get_mut(at) {
+        *old = byte;
+    }
+    Ok(pack)
+}
+
+/// What is at fault with a header is told, and of several things the first.
+#[test]
+fn tells_what_is_at_fault(rt: HostRuntime) -> Result<(), Fail> {
+    for (at, byte, fault) in [
+        (0, 0x6f, PackFault::NotAPack),
+        (3, 0x4c, PackFault::NotAPack),
+        (4, 1, PackFault::OtherVersion),
+        (5, 2, PackFault::OtherVersion),
+        (7, 1, PackFault::OtherVersion),
+        (47, 0xa2, PackFault::Cut),
+        (40, 0x80, PackFault::Cut),
+        (47, 0xa0, PackFault::BytesAfter),
+    ] {
+        let pack = changed(rt.alloc(), at, byte)?;
+        let opened = PackSource::open(rt.alloc(), pack.as_slice());
+        assert!(rt; opened.err() == Some(fault), "{at} {byte}");
+    }
+    Ok(())
+}
+
+/// A pack that is cut anywhere isn't opened.
+#[test]
+fn opens_no_cut_pack(rt: HostRuntime) {
+    for len in 0..LEN {
+        let fault = match len {
+            0..4 => PackFault::NotAPack,
+            _ => PackFault::Cut,
+        };
+        let opened = PackSource::open(rt.alloc(), &PACK[..len]);
+        assert!(rt; opened.err() == Some(fault), "{len}");
+    }
+}
+
+/// How many of the nodes a shelf over these bytes gives. Each node that it gives has its digest.
+fn count_given(rt: &(impl Abort + AllocGlobal), pack: &[u8]) -> u32 {
+    let arena = Bump::new(rt.alloc());
+    let Ok(source) = PackSource::open(rt.alloc(), pack) else {
+        return 0;
+    };
+    let mut shelf = OutsideShelf::new(rt.alloc(), &arena, source, Some(10_000));
+    let mut given = 0_u32;
+    for place in &NODES {
+        if let Ok(node) = shelf.fetch(&place.0) {
+            assert!(rt; digest_of(node) == place.0);
+            given = given.saturating_add(1);
+        }
+    }
+    given
+}
+
+/// Whether the byte at a place is one of a node.
+fn is_in_node(at: usize) -> bool {
+    NODES
+        .iter()
+        .any(|place| place.1 <= at && at - place.1 < place.2)
+}
+
+/// With any bit turned each node that is given has its digest, and not all are given where it is one of a node.
+#[test]
+fn gives_no_other_node(rt: HostRuntime) -> Result<(), Fail> {
+    assert_eq!(rt; count_given(&rt, PACK), 7);
+    for at in 0..LEN {
+        for bit in [1, 2, 4, 8, 16, 32, 64, 128] {
+            let pack = changed(rt.alloc(), at, PACK[at] ^ bit)?;
+            let given = count_given(&rt, pack.as_slice());
+            assert!(rt; given < 7 || !is_in_node(at), "{at} {bit}");
+        }
+    }
+    Ok(())
+}
+
+/// A place in another file is not known.
+#[test]
+fn knows_no_other_file(rt: HostRuntime) -> Result<(), Fail> {
+    let arena = Bump::new(rt.alloc());
+    // The number of the file of the first child of the manifest.
+    let pack = changed(rt.alloc(), 198, 1)?;
+    let source = PackSource::open(rt.alloc(), pack.as_slice())?;
+    let mut shelf = OutsideShelf::new(rt.alloc(), &arena, source, None);
+    assert!(rt; shelf.fetch(&ROOT).is_ok());
+    assert!(rt; shelf.fetch(&NODES[2].0).is_err());
+    assert_eq!(rt; shelf.refused(), Some(Refused::Absent));
+    Ok(())
+}
+
+/// A record that would be longer than the file isn't read, whatever its length is said to be.
+#[test]
+fn reads_no_longer_record(rt: HostRuntime) -> Result<(), Fail> {
+    let mut into = Vec::new(rt.alloc());
+    for at in 56..60 {
+        let pack = changed(rt.alloc(), at, 0xff)?;
+        let mut source = PackSource::open(rt.alloc(), pack.as_slice())?;
+        let read = source.read_node(&ROOT, usize::MAX, &mut into);
+        assert!(rt; read.is_ok() == (at == 59), "{at}");
+    }
+    Ok(())
+}
+
+/// Of a node that is too long comes one byte more than is wanted, and its children aren't known then.
+#[test]
+fn gives_a_byte_too_many(rt: HostRuntime) -> Result<(), Fail> {
+    let mut source = PackSource::open(rt.alloc(), PACK)?;
+    for (at_most, len) in [(0, 1), (3, 4), (132, 133), (133, 133), (usize::MAX, 133)] {
+        let mut into = Vec::new(rt.alloc());
+        let absent = source.read_node(&NODES[1].0, 1000, &mut into);
+        assert_eq!(rt;
+            absent == Err(SourceFault::Absent),
+            at_most <= 133,
+            "{at_most}"
+        );
+        into.clear();
+        source.read_node(&ROOT, at_most, &mut into)?;
+        assert_eq!(rt; into.as_slice(), &node_at(&NODES[0])[..len], "{at_most}");
+    }
+    Ok(())
+}
+
+/// Has the pack, and fails once after so many calls.
+#[derive(Drop)]
+struct Failing {
+    before: Option<u32>,
+}
+
+impl Failing {
+    /// Fails if it is the call's turn.
+    fn turn(&mut self) -> Result<(), ReadFault> {
+        match self.before {
+            Some(0) => {
+                self.before = None;
+                return Err(ReadFault::Device);
+            }
+            Some(more) => self.before = Some(more.saturating_sub(1)),
+            None => {}
+        }
+        Ok(())
+    }
+}
+
+impl ReadAt for Failing {
+    ghost reads = { λ device bytes. ⊥ };
+
+    fn size(&mut self) -> Result<u64, ReadFault> {
+        self.turn()?;
+        Ok(LEN as u64)
+    }
+
+    fn read_at(&mut self, offset: u64, len: usize, into: &mut Vec<u8>) -> Result<(), ReadFault> {
+        self.turn()?;
+        let mut pack = PACK;
+        pack.read_at(offset, len, into)
+    }
+}
+
+/// Where the device fails it is told so, and the next time the node is given.
+#[test]
+fn goes_on_after_a_failed_read(rt: HostRuntime) -> Result<(), Fail> {
+    for before in 0..2 {
+        let failing = Failing {
+            before: Some(before),
+        };
+        let opened = PackSource::open(rt.alloc(), failing);
+        assert!(rt; opened.err() == Some(PackFault::Device), "{before}");
+    }
+    for failed in 0..7_u32 {
+        let arena = Bump::new(rt.alloc());
+        let failing = Failing {
+            before: Some(failed.saturating_add(2)),
+        };
+        let source = PackSource::open(rt.alloc(), failing)?;
+        let mut shelf = OutsideShelf::new(rt.alloc(), &arena, source, None);
+        let mut turn = 0_u32;
+        for place in &NODES {
+            if turn == failed {
+                assert!(rt; shelf.fetch(&place.0).is_err());
+                assert_eq!(rt; shelf.refused(), Some(Refused::Device));
+            }
+            assert!(rt; shelf.fetch(&place.0) == Ok(node_at(place)));
+            turn = turn.saturating_add(1);
+        }
+    }
+    Ok(())
+}
+
+/// Run with each allocation refused in turn.
+#[test]
+fn gives_a_pack_after_refused_memory(rt: HostRuntime) -> Result<(), Fail> {
+    let arena = Bump::new(rt.alloc());
+    let source = match PackSource::open(rt.alloc(), PACK) {
+        Ok(source) => source,
+        Err(fault) => {
+            assert!(rt; fault == PackFault::Memory);
+            PackSource::open(rt.alloc(), PACK)?
+        }
+    };
+    let mut shelf = OutsideShelf::new(rt.alloc(), &arena, source, None);
+    for place in &NODES {
+        if shelf.fetch(&place.0).is_err() {
+            assert_eq!(rt; shelf.refused(), Some(Refused::Memory));
+        }
+        assert!(rt; shelf.fetch(&place.0) == Ok(node_at(place)));
+    }
+    Ok(())
+}
+
+/// A file is read at any offset, and not beyond its end. The file is this program.
+#[test]
+fn reads_a_file(rt: HostRuntime) -> Result<(), Fail> {
+    let opened = PackSource::open(rt.alloc(), File::open(&rt, "/proc/self/exe")?);
+    assert!(rt; opened.err() == Some(PackFault::NotAPack));
+    let mut file = File::open(&rt, "/proc/self/exe")?;
+    let mut into = b"before".to_vec(rt.alloc())?;
+    file.read_at(1, 3, &mut into)?;
+    assert_eq!(rt; into.as_slice(), b"beforeELF".as_slice());
+    let size = file.size()?;
+    assert!(rt; file.read_at(size, 1, &mut into) == Err(ReadFault::Device));
+    assert!(rt; file.read_at(u64::MAX, 1, &mut into) == Err(ReadFault::Device));
+    Ok(())
+}
