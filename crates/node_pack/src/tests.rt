@@ -22,58 +22,59 @@ const ROOT: Digest = Digest(
     *b"\x61\xff\x96\x25\xd8\x5d\x53\x00\xd6\x77\x01\x61\x60\x04\x78\xb8\x4d\xcd\x5a\x86\x6e\x3a\xfe\xdd\x31\x50\x66\xfa\x05\x67\x0c\xef",
 );
 
-/// The digests of its nodes, and where they stand in the pack: the manifest, the top of the tree of tags, the empty tree of objects, both
-/// leaves, and two empty trees.
-const NODES: [(Digest, usize, usize); 7] = [
-    (ROOT, 64, 133),
+/// A node: its digest, its offset in the pack, and its bytes.
+type Row = (Digest, usize, &'static [u8]);
+
+/// The nodes of the pack: the manifest, the top of the tree of tags, the empty tree of objects, both leaves, and two empty trees.
+const NODES: [Row; 7] = [
+    (
+        ROOT,
+        64,
+        b"\x4f\x53\x4d\x4d\x01\x67\xab\xdd\x72\x10\x24\xf0\xff\x4e\x0b\x3f\x4c\x2f\xc1\x3b\xc5\xba\xd4\x2d\x0b\x78\x51\xd4\x56\xd8\x8d\x20\x3d\x15\xaa\xa4\x50\x17\x27\xe7\xf2\xf1\x68\x1d\x46\x2e\xbc\x7d\xf0\x02\x4c\x97\xec\x1e\xf2\x44\x9f\x64\x54\xa1\x17\x74\x36\xee\x3a\x26\x4a\x67\x83\x9d\x9f\x29\x05\x27\xa6\xbe\x62\x6a\x8f\x59\x85\xb2\x6e\x19\xb2\x37\xb4\x48\x72\xb0\x36\x31\x81\x1d\xf4\x41\x6f\xc1\x71\x31\x78\xfb\x5e\x51\x24\x25\xfc\x94\x49\x31\x6e\xc9\x59\x69\xeb\xe7\x1e\x2d\x57\x6d\xba\xb8\x33\xd6\x1e\x2a\x5b\x93\x30\xfd\x70\xee\x02",
+    ),
     (
         Digest(
             *b"\x17\x27\xe7\xf2\xf1\x68\x1d\x46\x2e\xbc\x7d\xf0\x02\x4c\x97\xec\x1e\xf2\x44\x9f\x64\x54\xa1\x17\x74\x36\xee\x3a\x26\x4a\x67\x83",
         ),
         249,
-        90,
+        b"\x02\x01\x00\x02\x00\x01\x61\x00\x00\x00\x00\x00\x00\x00\x01\xba\x43\x7a\x7a\xbc\xcc\x0d\x72\x3d\x3a\x2e\xad\x95\x07\x22\xbf\x1c\x12\x59\x4a\x18\xdc\xc2\x41\xc7\xa4\xaf\xe1\xa5\x35\x7d\xfe\x00\x01\x62\x00\x00\x00\x00\x00\x00\x00\x01\x92\x53\xd5\xfb\x6e\x17\x2d\x68\x0c\x9c\x90\x4d\x3d\xa7\x5f\x65\x67\x5b\x6e\xe3\xb0\x82\x49\x08\x09\x3d\xd6\x82\xf2\x7d\x0d\xaf",
     ),
     (
         Digest(
             *b"\x67\xab\xdd\x72\x10\x24\xf0\xff\x4e\x0b\x3f\x4c\x2f\xc1\x3b\xc5\xba\xd4\x2d\x0b\x78\x51\xd4\x56\xd8\x8d\x20\x3d\x15\xaa\xa4\x50",
         ),
         367,
-        4,
+        b"\x01\x00\x00\x00",
     ),
     (
         Digest(
             *b"\xba\x43\x7a\x7a\xbc\xcc\x0d\x72\x3d\x3a\x2e\xad\x95\x07\x22\xbf\x1c\x12\x59\x4a\x18\xdc\xc2\x41\xc7\xa4\xaf\xe1\xa5\x35\x7d\xfe",
         ),
         375,
-        11,
+        b"\x02\x00\x00\x01\x00\x01\x61\x00\x00\x00\x00",
     ),
     (
         Digest(
             *b"\x92\x53\xd5\xfb\x6e\x17\x2d\x68\x0c\x9c\x90\x4d\x3d\xa7\x5f\x65\x67\x5b\x6e\xe3\xb0\x82\x49\x08\x09\x3d\xd6\x82\xf2\x7d\x0d\xaf",
         ),
         390,
-        11,
+        b"\x02\x00\x00\x01\x00\x01\x62\x00\x00\x00\x00",
     ),
     (
         Digest(
             *b"\x9d\x9f\x29\x05\x27\xa6\xbe\x62\x6a\x8f\x59\x85\xb2\x6e\x19\xb2\x37\xb4\x48\x72\xb0\x36\x31\x81\x1d\xf4\x41\x6f\xc1\x71\x31\x78",
         ),
         405,
-        4,
+        b"\x03\x00\x00\x00",
     ),
     (
         Digest(
             *b"\xfb\x5e\x51\x24\x25\xfc\x94\x49\x31\x6e\xc9\x59\x69\xeb\xe7\x1e\x2d\x57\x6d\xba\xb8\x33\xd6\x1e\x2a\x5b\x93\x30\xfd\x70\xee\x02",
         ),
         413,
-        4,
+        b"\x04\x00\x00\x00",
     ),
 ];
-
-/// The bytes of a node.
-fn node_at(place: &(Digest, usize, usize)) -> &'static [u8] {
-    &PACK[place.1..place.1 + place.2]
-}
 
 /// Every node is given from the root down, and none before its parent.
 #[test]
@@ -87,7 +88,7 @@ fn gives_a_pack(rt: HostRuntime) -> Result<(), Fail> {
         assert_eq!(rt; shelf.refused(), Some(Refused::Absent));
     }
     for place in &NODES {
-        assert!(rt; shelf.fetch(&place.0) == Ok(node_at(place)));
+        assert!(rt; shelf.fetch(&place.0) == Ok(place.2));
     }
     Ok(())
 }
@@ -155,7 +156,7 @@ fn count_given(rt: &(impl Abort + AllocGlobal), pack: &[u8]) -> u32 {
 fn is_in_node(at: usize) -> bool {
     NODES
         .iter()
-        .any(|place| place.1 <= at && at - place.1 < place.2)
+        .any(|place| place.1 <= at && at - place.1 < place.2.len())
 }
 
 /// With any bit turned each node that is given has its digest, and not all are given where it is one of a node.
@@ -213,7 +214,8 @@ fn gives_a_byte_too_many(rt: HostRuntime) -> Result<(), Fail> {
         );
         into.clear();
         source.read_node(&ROOT, at_most, &mut into)?;
-        assert_eq!(rt; into.as_slice(), &node_at(&NODES[0])[..len], "{at_most}");
+        let is_front = NODES[0].2.starts_with(into.as_slice());
+        assert!(rt; is_front && into.len() == len, "{at_most}");
     }
     Ok(())
 }
@@ -277,7 +279,7 @@ fn goes_on_after_a_failed_read(rt: HostRuntime) -> Result<(), Fail> {
                 assert!(rt; shelf.fetch(&place.0).is_err());
                 assert_eq!(rt; shelf.refused(), Some(Refused::Device));
             }
-            assert!(rt; shelf.fetch(&place.0) == Ok(node_at(place)));
+            assert!(rt; shelf.fetch(&place.0) == Ok(place.2));
             turn = turn.saturating_add(1);
         }
     }
@@ -300,7 +302,7 @@ fn gives_a_pack_after_refused_memory(rt: HostRuntime) -> Result<(), Fail> {
         if shelf.fetch(&place.0).is_err() {
             assert_eq!(rt; shelf.refused(), Some(Refused::Memory));
         }
-        assert!(rt; shelf.fetch(&place.0) == Ok(node_at(place)));
+        assert!(rt; shelf.fetch(&place.0) == Ok(place.2));
     }
     Ok(())
 }

@@ -1,0 +1,38 @@
+"""Packs: what packs.py writes by docs/FORMATS.md reads back, is the pack that is worked there, and is what the crates' tests
+have."""
+
+import re
+
+from packs import example, four_objects, nodes_of, pack_of
+from runs import TOP, Tally
+from trees import digest
+
+PLACES = {
+    "example": (example, "crates/node_pack/src/tests.rt"),
+    "four objects": (four_objects, "crates/outside_answer_tests/src/packs.rt"),
+}
+
+
+def literals(path):
+    """The byte strings of a file that are written in escapes alone."""
+    found = re.findall(r'b"((?:\\x[0-9a-f]{2})+)"', (TOP / path).read_text(encoding="utf-8"))
+    return [bytes.fromhex(it.replace("\\x", "")) for it in found]
+
+
+def main():
+    tally = Tally()
+    for name, (nodes, path) in PLACES.items():
+        made = nodes()
+        pack = pack_of(made)
+        root, found = nodes_of(pack)
+        tally.check(f"{name} reads back", root == digest(made[0]) and sorted(found) == sorted(made), root.hex())
+        tally.check(f"{name} stands in its test", pack in literals(path) and root in literals(path), path)
+    text = (TOP / "docs/FORMATS.md").read_text(encoding="utf-8")
+    chapter = text[text.index("\n## Packs\n") :]
+    worked = "".join(re.findall(r"^    ([0-9a-f]+)$", chapter, re.MULTILINE))
+    tally.check("the worked pack", worked == pack_of(example()).hex(), worked)
+    tally.end()
+
+
+if __name__ == "__main__":
+    main()
