@@ -127,6 +127,8 @@ OF_CLAP = [
         "  prove    Writes the answer to a query and its proof, and prints the root of the set\n"
         "  check    Checks an answer by its proof and a root: prints 'yes', or 'no' and why\n"
         "  fetch    Asks a mirror, checks its proof on this machine and prints the answer\n"
+        "  pack     Writes a set's pack, a file from which clients answer queries by themselves, and prints the root\n"
+        "  query    Finds the answer in a pack, trusting nothing in it, and prints it\n"
         "  serve    Answers queries over HTTP, with proofs, on 127.0.0.1\n"
         "  relay    Answers programs on this machine as an Overpass server does, with what a mirror has proved\n"
         "  explain  Prints what a code means, where it is told and what to do about it\n",

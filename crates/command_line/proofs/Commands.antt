@@ -85,8 +85,10 @@ among-commands name (inr (inr (inr (inr (inl e))))) = inr (inr (inr (inr (inl e)
 among-commands name (inr (inr (inr (inr (inr (inl e)))))) = inr (inr (inr (inr (inr (inl e)))))
 among-commands name (inr (inr (inr (inr (inr (inr (inl e))))))) = inr (inr (inr (inr (inr (inr (inl e))))))
 among-commands name (inr (inr (inr (inr (inr (inr (inr (inl e)))))))) = inr (inr (inr (inr (inr (inr (inr (inl e)))))))
-among-commands name (inr (inr (inr (inr (inr (inr (inr (inr (inl e))))))))) = inr (inr (inr (inr (inr (inr (inr (inr e)))))))
-among-commands name (inr (inr (inr (inr (inr (inr (inr (inr (inr e))))))))) = absurd e
+among-commands name (inr (inr (inr (inr (inr (inr (inr (inr (inl e))))))))) = inr (inr (inr (inr (inr (inr (inr (inr (inl e))))))))
+among-commands name (inr (inr (inr (inr (inr (inr (inr (inr (inr (inl e)))))))))) = inr (inr (inr (inr (inr (inr (inr (inr (inr (inl e)))))))))
+among-commands name (inr (inr (inr (inr (inr (inr (inr (inr (inr (inr (inl e))))))))))) = inr (inr (inr (inr (inr (inr (inr (inr (inr (inr e)))))))))
+among-commands name (inr (inr (inr (inr (inr (inr (inr (inr (inr (inr (inr e))))))))))) = absurd e
 
 -- the command that the words name is one of the program's
 pub named : (words : List Text) (p : Text × List Row) → subcommand_of program_app words ≡ Some p → IsCommandName p.0

@@ -8,6 +8,8 @@ use Rattle.command_line.specs.ChangesCommand.{changes_app}
 use Rattle.command_line.specs.ProveCommand.{prove_app}
 use Rattle.command_line.specs.CheckCommand.{check_app}
 use Rattle.command_line.specs.FetchCommand.{fetch_app}
+use Rattle.command_line.specs.PackCommand.{pack_app}
+use Rattle.command_line.specs.QueryCommand.{query_app}
 use Rattle.command_line.specs.ServeCommand.{serve_app}
 use Rattle.command_line.specs.RelayCommand.{relay_app}
 use Rattle.command_line.specs.ExplainCommand.{explain_app}
@@ -25,6 +27,10 @@ set_app = with_subcommand (with_subcommand (with_subcommand (with_subcommand bar
 abbrev pub checking_app : App
 checking_app = with_subcommand (with_subcommand set_app check_app.top) fetch_app.top
 
+-- and with those that write a pack and find answers in it
+abbrev pub packing_app : App
+packing_app = with_subcommand (with_subcommand checking_app pack_app.top) query_app.top
+
 -- one level of commands
 abbrev pub program_app : App
-program_app = with_subcommand (with_subcommand (with_subcommand checking_app serve_app.top) relay_app.top) explain_app.top
+program_app = with_subcommand (with_subcommand (with_subcommand packing_app serve_app.top) relay_app.top) explain_app.top

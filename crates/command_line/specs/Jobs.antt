@@ -16,11 +16,13 @@ use Rattle.command_line.specs.ProveCommand.{prove_name}
 use Rattle.command_line.specs.CheckCommand.{check_name}
 use Rattle.command_line.specs.ExplainCommand.{explain_name}
 use Rattle.command_line.specs.Numbers.{IsNumber, IsNumberOrNone}
+use Rattle.command_line.specs.PackCommand.{pack_name}
+use Rattle.command_line.specs.QueryCommand.{query_name}
 use Rattle.command_line.specs.RelayCommand.{relay_name}
 use Rattle.command_line.specs.RootArgument.{IsRootText}
 use Rattle.command_line.specs.ServeCommand.{CantServe, MayTake, serve_name}
 use Rattle.command_line.specs.declared.job.Job.{Job}
-use Rattle.command_line.specs.declared.job.Job.TheVariants.{Ask, Publish, Changes, Prove, Check, Fetch, Serve, Relay, Explain}
+use Rattle.command_line.specs.declared.job.Job.TheVariants.{Ask, Publish, Changes, Prove, Check, Fetch, Pack, Query, Serve, Relay, Explain}
 
 -- the job is that of the command of this name with these matches
 abbrev pub Gives : Job → Text → List Row → Type 0
@@ -54,6 +56,17 @@ Gives (Fetch root mirror query form max_size max_work) name rows = (name ≡ fet
     × AsksForForm (first_of (codes "form") rows) form
     × IsNumberOrNone 64 (one_of (codes "max-size") rows) max_size
     × IsNumberOrNone 64 (one_of (codes "max-work") rows) max_work
+Gives (Pack file pack edition) name rows = (name ≡ pack_name)
+    × (string_bytes file ≡ text_of (codes "FILE") rows)
+    × (string_bytes pack ≡ text_of (codes "PACK") rows)
+    × AsksForEdition (first_of (codes "edition") rows) (one_of (codes "sequence") rows) edition
+Gives (Query root place query form max_bytes max_work) name rows = (name ≡ query_name)
+    × (decode_of (text_of (codes "ROOT") rows) ≡ Ok root.0)
+    × (string_bytes place ≡ text_of (codes "PLACE") rows)
+    × (string_bytes query ≡ text_of (codes "QUERY") rows)
+    × AsksForForm (first_of (codes "form") rows) form
+    × IsNumberOrNone 64 (one_of (codes "max-bytes") rows) max_bytes
+    × IsNumberOrNone 64 (one_of (codes "max-work") rows) max_work
 Gives (Serve file port connections max_work edition changes strict_changes) name rows = (name ≡ serve_name)
     × (string_bytes file ≡ text_of (codes "FILE") rows)
     × IsNumber 16 0 (one_of (codes "PORT") rows) port
@@ -78,22 +91,22 @@ abbrev pub GivesMatch : Job → Option (Text × List Row) → Type 0
 GivesMatch job None = ⊥
 GivesMatch job (Some matched) = Gives job matched.0 matched.1
 
--- the command `check`, `fetch` or `relay` was matched, with a root that isn't 64 hexadecimal digits
+-- the command `check`, `fetch`, `query` or `relay` was matched, with a root that isn't 64 hexadecimal digits
 abbrev pub HasBadRoot : Option (Text × List Row) → Type 0
 HasBadRoot None = ⊥
-HasBadRoot (Some matched) = ((matched.0 ≡ check_name) ⊎ ((matched.0 ≡ fetch_name) ⊎ (matched.0 ≡ relay_name)))
+HasBadRoot (Some matched) = ((matched.0 ≡ check_name) ⊎ ((matched.0 ≡ fetch_name) ⊎ ((matched.0 ≡ query_name) ⊎ (matched.0 ≡ relay_name))))
     × ¬ (IsRootText (text_of (codes "ROOT") matched.1))
 
--- the command `ask` was matched, or `fetch` with a root of 64 hexadecimal digits, and with a word for the form that is none of
--- `opl`, `json` and `xml`
+-- the command `ask` was matched, or `fetch` or `query` with a root of 64 hexadecimal digits, and with a word for the form that
+-- is none of `opl`, `json` and `xml`
 abbrev pub HasBadForm : Option (Text × List Row) → Type 0
 HasBadForm None = ⊥
-HasBadForm (Some matched) = ((matched.0 ≡ ask_name) ⊎ ((matched.0 ≡ fetch_name) × IsRootText (text_of (codes "ROOT") matched.1)))
+HasBadForm (Some matched) = ((matched.0 ≡ ask_name) ⊎ (((matched.0 ≡ fetch_name) ⊎ (matched.0 ≡ query_name)) × IsRootText (text_of (codes "ROOT") matched.1)))
     × IsBadForm (first_of (codes "form") matched.1)
 
--- the command `publish`, `prove` or `serve` was matched, with a word for the edition that is neither `1` nor `2`; or
+-- the command `publish`, `prove`, `pack` or `serve` was matched, with a word for the edition that is neither `1` nor `2`; or
 -- `serve`, with the first edition and a folder of changes
 abbrev pub HasBadEdition : Option (Text × List Row) → Type 0
 HasBadEdition None = ⊥
-HasBadEdition (Some matched) = (((matched.0 ≡ publish_name) ⊎ (matched.0 ≡ prove_name)) × IsBadEdition (first_of (codes "edition") matched.1))
+HasBadEdition (Some matched) = (((matched.0 ≡ publish_name) ⊎ ((matched.0 ≡ prove_name) ⊎ (matched.0 ≡ pack_name))) × IsBadEdition (first_of (codes "edition") matched.1))
     ⊎ ((matched.0 ≡ serve_name) × CantServe (first_of (codes "edition") matched.1) (first_of (codes "changes") matched.1))

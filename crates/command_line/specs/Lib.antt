@@ -10,11 +10,14 @@ pub mod Flags
 pub mod FormOption
 pub mod Jobs
 pub mod ListenOptions
+pub mod MaxBytesOption
 pub mod MaxSizeOption
 pub mod MaxWorkOption
 pub mod Numbers
+pub mod PackCommand
 pub mod ProveCommand
 pub mod PublishCommand
+pub mod QueryCommand
 pub mod RelayCommand
 pub mod RootArgument
 pub mod ServeCommand

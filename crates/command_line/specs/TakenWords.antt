@@ -7,6 +7,7 @@ use Rattle.command_line.specs.CheckCommand.{check_name}
 use Rattle.command_line.specs.CommandLine.{program_app}
 use Rattle.command_line.specs.FetchCommand.{fetch_name}
 use Rattle.command_line.specs.Numbers.{IsNumberOrNone}
+use Rattle.command_line.specs.QueryCommand.{query_name}
 use Rattle.command_line.specs.RelayCommand.{relay_name}
 use Rattle.command_line.specs.ServeCommand.{serve_name}
 
@@ -44,6 +45,11 @@ check_words program root query answer proof = program ∷ check_name ∷ codes "
 abbrev pub fetch_words : (program root mirror query : Text) → List Text
 fetch_words program root mirror query = program ∷ fetch_name ∷ codes "--form" ∷ codes "xml" ∷ codes "--max-size" ∷ codes "65536"
     ∷ texts_follow ∷ root ∷ mirror ∷ query ∷ []
+
+-- and of `query`
+abbrev pub query_words : (program root place query : Text) → List Text
+query_words program root place query = program ∷ query_name ∷ codes "--form" ∷ codes "xml" ∷ codes "--max-bytes" ∷ codes "65536"
+    ∷ texts_follow ∷ root ∷ place ∷ query ∷ []
 
 -- and of `relay`, with two other mirrors
 abbrev pub relay_words : (program root mirror : Text) → List Text

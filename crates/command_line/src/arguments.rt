@@ -43,6 +43,12 @@ pub(crate) const MIRROR: Argument = Argument {
     help: "Mirror to ask, as 'mirror.example:8080'",
 };
 
+/// Where a pack is.
+pub(crate) const PLACE: Argument = Argument {
+    name: "PLACE",
+    help: "File of the pack",
+};
+
 /// The command with these positional arguments, in order, each of which has to be there.
 pub(crate) fn and_all_wanted<'a>(
     alloc: Global,

@@ -77,6 +77,31 @@ pub enum Job {
         /// The most work that the query may take, if there is a limit.
         max_work: Option<u64>,
     },
+    /// `pack FILE PACK [--edition 1|2] [--sequence N]`: write the pack of a set, and tell the root.
+    Pack {
+        /// The OPL file with the set's objects.
+        file: String,
+        /// The file that the pack is written to.
+        pack_file: String,
+        /// The edition of the root.
+        edition: Edition,
+    },
+    /// `query ROOT PLACE QUERY [--form opl|json|xml] [--max-bytes BYTES] [--max-work N]`: find the answer in a pack, and
+    /// print it.
+    Query {
+        /// The root, which the word ROOT tells in 64 hexadecimal digits of either case.
+        root: Digest,
+        /// The file of the pack.
+        place: String,
+        /// The bytes of the word QUERY as they stand.
+        query: String,
+        /// The form of the answer.
+        form: Form,
+        /// The most bytes of nodes that the query may read, if there is a limit.
+        max_bytes: Option<u64>,
+        /// The most work that the query may take, if there is a limit.
+        max_work: Option<u64>,
+    },
     /// `serve FILE PORT [--connections N] [--max-work N] [--changes DIR] [--strict-changes] [--edition 1|2]
     /// [--sequence N]`: answer queries over HTTP.
     Serve {

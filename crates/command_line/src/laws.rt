@@ -8,11 +8,13 @@ ghost use Rattle.command_line.specs.ChangesCommand.{changes_name};
 ghost use Rattle.command_line.specs.CheckCommand.{check_name};
 ghost use Rattle.command_line.specs.ExplainCommand.{explain_name};
 ghost use Rattle.command_line.specs.FetchCommand.{fetch_name};
+ghost use Rattle.command_line.specs.PackCommand.{pack_name};
 ghost use Rattle.command_line.specs.ProveCommand.{prove_name};
 ghost use Rattle.command_line.specs.PublishCommand.{publish_name};
+ghost use Rattle.command_line.specs.QueryCommand.{query_name};
 ghost use Rattle.command_line.specs.RelayCommand.{relay_name};
 ghost use Rattle.command_line.specs.ServeCommand.{serve_name};
-ghost use Rattle.command_line.specs.TakenWords.{AreTaken, RefusesBudget, TakesBudget, ask_words, check_words, command_words, fetch_words, relay_words, serve_words};
+ghost use Rattle.command_line.specs.TakenWords.{AreTaken, RefusesBudget, TakesBudget, ask_words, check_words, command_words, fetch_words, query_words, relay_words, serve_words};
 
 /// A law: each command takes words. After the word `--` it takes any texts, and they are the texts that its matches
 /// have, in order. So what [`crate::read_words`] promises of words that are taken is no empty promise.
@@ -36,6 +38,13 @@ pub fn each_command_takes_words()
     ensures fetch { (program root mirror query : Text)
         → AreTaken (command_words program fetch_name (root ∷ mirror ∷ query ∷ [])) fetch_name (λ rows.
         (text_of (codes "ROOT") rows ≡ root) × (text_of (codes "HOST:PORT") rows ≡ mirror)
+        × (text_of (codes "QUERY") rows ≡ query) × (first_of (codes "form") rows ≡ None)) }
+    ensures pack { (program file pack : Text)
+        → AreTaken (command_words program pack_name (file ∷ pack ∷ [])) pack_name (λ rows.
+        (text_of (codes "FILE") rows ≡ file) × (text_of (codes "PACK") rows ≡ pack)) }
+    ensures query { (program root place query : Text)
+        → AreTaken (command_words program query_name (root ∷ place ∷ query ∷ [])) query_name (λ rows.
+        (text_of (codes "ROOT") rows ≡ root) × (text_of (codes "PLACE") rows ≡ place)
         × (text_of (codes "QUERY") rows ≡ query) × (first_of (codes "form") rows ≡ None)) }
     ensures relay { (program root mirror : Text)
         → AreTaken (command_words program relay_name (root ∷ mirror ∷ codes "8080" ∷ [])) relay_name (λ rows.
@@ -74,6 +83,11 @@ pub fn each_command_takes_words()
         (text_of (codes "ROOT") rows ≡ root) × (text_of (codes "HOST:PORT") rows ≡ mirror)
         × (text_of (codes "QUERY") rows ≡ query) × (first_of (codes "form") rows ≡ Some (codes "xml"))
         × (one_of (codes "max-size") rows ≡ Some (codes "65536"))) }
+    ensures query_within { (program root place query : Text)
+        → AreTaken (query_words program root place query) query_name (λ rows.
+        (text_of (codes "ROOT") rows ≡ root) × (text_of (codes "PLACE") rows ≡ place)
+        × (text_of (codes "QUERY") rows ≡ query) × (first_of (codes "form") rows ≡ Some (codes "xml"))
+        × (one_of (codes "max-bytes") rows ≡ Some (codes "65536"))) }
     // An option that may come several times has its texts in their order.
     ensures relay_with { (program root mirror : Text) → AreTaken (relay_words program root mirror) relay_name (λ rows.
         (text_of (codes "ROOT") rows ≡ root) × (text_of (codes "HOST:PORT") rows ≡ mirror)
@@ -83,7 +97,7 @@ pub fn each_command_takes_words()
         × (one_of (codes "connections") rows ≡ Some (codes "9"))) }
 {}
 
-/// A law: `serve`, `check`, `fetch` and `relay` take each number below 2^64 as a budget, 0 too, and it is the number that
+/// A law: `serve`, `check`, `fetch`, `query` and `relay` take each number below 2^64 as a budget, 0 too, and it is the number that
 /// the text writes; a greater one they don't take.
 pub fn budgets_are_numbers()
     ensures serve { (file : Text) → TakesBudget serve_name (file ∷ codes "80" ∷ []) (codes "0") 0
@@ -97,6 +111,10 @@ pub fn budgets_are_numbers()
         → TakesBudget fetch_name (root ∷ mirror ∷ query ∷ []) (codes "0") 0
         × TakesBudget fetch_name (root ∷ mirror ∷ query ∷ []) (codes "18446744073709551615") 18446744073709551615
         × RefusesBudget fetch_name (root ∷ mirror ∷ query ∷ []) (codes "18446744073709551616") }
+    ensures query { (root place query : Text)
+        → TakesBudget query_name (root ∷ place ∷ query ∷ []) (codes "0") 0
+        × TakesBudget query_name (root ∷ place ∷ query ∷ []) (codes "18446744073709551615") 18446744073709551615
+        × RefusesBudget query_name (root ∷ place ∷ query ∷ []) (codes "18446744073709551616") }
     ensures relay { (root mirror : Text)
         → TakesBudget relay_name (root ∷ mirror ∷ codes "80" ∷ []) (codes "0") 0
         × TakesBudget relay_name (root ∷ mirror ∷ codes "80" ∷ []) (codes "18446744073709551615") 18446744073709551615

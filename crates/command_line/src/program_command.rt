@@ -4,15 +4,17 @@ ghost use Rattle.std.specs.Prelude.{◌≡◌, IfOk, false};
 ghost use Rattle.clap.specs.declared.builder.command.Command.TheViews.{out-Command as fields_of};
 ghost use Rattle.clap.specs.Words.{App, app_of, with_subcommand};
 ghost use Rattle.command_line.specs.internal.Commands.{IsCommand};
-ghost use Rattle.command_line.specs.CommandLine.{bare_app, checking_app, program_app, set_app};
+ghost use Rattle.command_line.specs.CommandLine.{bare_app, checking_app, packing_app, program_app, set_app};
 
 use crate::ask_command::ask_command;
 use crate::changes_command::changes_command;
 use crate::check_command::check_command;
 use crate::explain_command::explain_command;
 use crate::fetch_command::fetch_command;
+use crate::pack_command::pack_command;
 use crate::prove_command::prove_command;
 use crate::publish_command::publish_command;
+use crate::query_command::query_command;
 use crate::relay_command::relay_command;
 use crate::serve_command::serve_command;
 use clap::Command;
@@ -30,13 +32,22 @@ const VERSION: &str = "0.1.0 (edition 2, rattle-kit-13f logic dac8208d650f15bf)"
 pub(crate) fn program_command<'a>(alloc: Global) -> Result<Command<'a>, AllocError>
     ensures { IfOk result (IsCommand program_app) }
 {
-    let program = checking_program(alloc)?;
+    let program = packing_program(alloc)?;
     let program = and_command(program, serve_command(alloc))?;
     let program = and_command(program, relay_command(alloc))?;
     and_command(program, explain_command(alloc))
 }
 
-// Split off, as the next function is: a long chain of calls is dear to prove.
+// Split off, as the next functions are: a long chain of calls is dear to prove.
+/// The program without those that serve, and without `explain`.
+fn packing_program<'a>(alloc: Global) -> Result<Command<'a>, AllocError>
+    ensures { IfOk result (IsCommand packing_app) }
+{
+    let program = checking_program(alloc)?;
+    let program = and_command(program, pack_command(alloc))?;
+    and_command(program, query_command(alloc))
+}
+
 /// The program with the commands that read a set, and those that check answers.
 fn checking_program<'a>(alloc: Global) -> Result<Command<'a>, AllocError>
     ensures { IfOk result (IsCommand checking_app) }

@@ -13,9 +13,11 @@ use crate::check_command::{CHECK, check_job};
 use crate::explain_command::{EXPLAIN, explain_job};
 use crate::fetch_command::{FETCH, fetch_job};
 use crate::job::Job;
+use crate::pack_command::{PACK, pack_job};
 use crate::program_command::program_command;
 use crate::prove_command::{PROVE, prove_job};
 use crate::publish_command::{PUBLISH, publish_job};
+use crate::query_command::{QUERY_PACK, query_job};
 use crate::relay_command::{RELAY, relay_job};
 use crate::serve_command::{SERVE, serve_job};
 use crate::words_fault::WordsFault;
@@ -31,10 +33,10 @@ use std::alloc::{AllocError, Global};
 /// # Errors
 ///
 /// `Usage` with `clap`'s text, where the words are none of this command line, or ask for help. `BadRoot`
-/// where the word ROOT of `check`, `fetch` or `relay` isn't 64 hexadecimal digits. `BadForm` where the word after
-/// `--form` of `ask` or `fetch` is none of `opl`, `json` and `xml`; `fetch` looks at ROOT before. `BadEdition` where the
-/// word after `--edition` of `publish`, `prove` or `serve` is neither `1` nor `2`, and where `serve` is asked to take
-/// changes in edition 1. `Memory` where an allocation was refused.
+/// where the word ROOT of `check`, `fetch`, `query` or `relay` isn't 64 hexadecimal digits. `BadForm` where the word
+/// after `--form` of `ask`, `fetch` or `query` is none of `opl`, `json` and `xml`; `fetch` and `query` look at ROOT before.
+/// `BadEdition` where the word after `--edition` of `publish`, `prove`, `pack` or `serve` is neither `1` nor `2`, and where
+/// `serve` is asked to take changes in edition 1. `Memory` where an allocation was refused.
 pub fn read_words(alloc: Global, words: Vec<String>) -> Result<Job, WordsFault>
     ensures read { IfOk result
         (λ job. GivesMatch job (subcommand_of program_app (map string_bytes words.items))) }
@@ -76,6 +78,8 @@ fn job_of(alloc: Global, name: &str, matches: &ArgMatches<'_>) -> Result<Job, Wo
         PROVE => prove_job(alloc, matches),
         CHECK => check_job(alloc, matches),
         FETCH => fetch_job(alloc, matches),
+        PACK => pack_job(alloc, matches),
+        QUERY_PACK => query_job(alloc, matches),
         SERVE => serve_job(alloc, matches),
         RELAY => relay_job(alloc, matches),
         EXPLAIN => Ok(explain_job(alloc, matches)?),

@@ -5,6 +5,7 @@ mod ask_and_explain;
 mod check;
 mod fetch_and_relay;
 mod memory;
+mod pack_and_query;
 mod publish_prove_changes;
 mod refusals;
 mod serve;

@@ -3,7 +3,8 @@
 //!
 //! [`first_request`] says whether the bytes begin with a complete request, with a part of one, or with one that is
 //! refused as it stands. [`method_of`] tells methods apart, and [`query_of`] finds the query that a request carries.
-//! [`append_response`] writes a response. What is answered is decided by the crates above.
+//! [`append_response`] writes a response, and [`append_head`] the head of one whose body has [`total_len`] bytes. What is
+//! answered is decided by the crates above.
 #![tactic(auto)]
 
 mod decision;
@@ -27,5 +28,5 @@ pub use method::{Method, method_of};
 pub use query_text::{QuerySource, QueryText, query_of};
 pub use refusal::Refusal;
 pub use request::Request;
-pub use response::{ResponseHead, append_response};
+pub use response::{ResponseHead, append_head, append_response, total_len};
 pub use target::{QUESTION_MARK, split_target};

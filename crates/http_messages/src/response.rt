@@ -59,8 +59,28 @@ pub fn append_response(
     Ok(())
 }
 
-/// The number of bytes of all parts; none where that is no `usize`.
-fn total_len(parts: &[&[u8]]) -> Option<usize>
+/// Appends the head of a response whose body has this many bytes: the status line, the fields and the empty line. The body
+/// comes after it, which the caller may hand on without a copy.
+///
+/// It is refused only where memory runs out; the output then stays as it was.
+///
+/// Source: that of [`append_response`].
+pub fn append_head(
+    alloc: Global,
+    output: &mut Vec<u8>,
+    head: &ResponseHead<'_>,
+    body_len: usize,
+) -> Result<(), AllocError>
+    ensures text { OnOk result (output.new.items ≡ output.old.items
+        ++ head_text (parts_of head.now) body_len) }
+    ensures refused { OnErr result (output.new.items ≡ output.old.items) }
+{
+    let lines = head_text(alloc, head, body_len)?;
+    output.extend_from_slice(lines.as_bytes())
+}
+
+/// The number of bytes of a body that is made of these parts; none where that is no `usize`. It takes no memory.
+pub fn total_len(parts: &[&[u8]]) -> Option<usize>
     ensures { IfSome result (λ len. len ≡ length (body_of parts.now)) }
 {
     let mut len: usize = 0;

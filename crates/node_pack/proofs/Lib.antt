@@ -1,5 +1,12 @@
 mod ChildLemmas
+mod GatherLemmas
 mod HeaderLemmas
+mod LayoutLemmas
 mod PackLemmas
 mod PlaceMaps
 mod RecordLemmas
+mod RoleLemmas
+mod TableLemmas
+mod WholeLemmas
+mod WriteLemmas
+mod WrittenLemmas

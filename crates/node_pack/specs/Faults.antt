@@ -1,11 +1,15 @@
--- Why a file isn't opened as a pack.
+-- Why a file isn't opened as a pack, and why a pack isn't written.
 -- Source: this project.
 use Rattle.node_pack.specs.declared.fault.PackFault.{PackFault}
 use Rattle.node_pack.specs.declared.fault.PackFault.TheVariants as faults
 use Rattle.node_pack.specs.declared.read_at.ReadFault.{ReadFault}
 use Rattle.node_pack.specs.declared.read_at.ReadFault.TheVariants as reads
 use Rattle.outside_shelf.specs.declared.source.SourceFault.{SourceFault}
+use Rattle.node_pack.specs.declared.write_fault.WriteFault.{WriteFault}
+use Rattle.node_pack.specs.declared.write_fault.WriteFault.TheVariants as writes
 use Rattle.outside_shelf.specs.declared.source.SourceFault.TheVariants as sources
+use Rattle.tree_node.specs.declared.shelf.ShelfFault.{ShelfFault}
+use Rattle.tree_node.specs.declared.shelf.ShelfFault.TheVariants as shelves
 
 -- what a refused read is to who opens a pack
 abbrev pub pack_fault_of : ReadFault → PackFault
@@ -16,3 +20,8 @@ pack_fault_of reads.Memory = faults.Memory
 abbrev pub source_fault_of : ReadFault → SourceFault
 source_fault_of reads.Device = sources.Device
 source_fault_of reads.Memory = sources.Memory
+
+-- what a shelf that gave no node is to who writes a pack
+abbrev pub write_fault_of : ShelfFault → WriteFault
+write_fault_of shelves.Missing = writes.Missing
+write_fault_of shelves.Memory = writes.Memory

@@ -37,7 +37,7 @@ pub(crate) fn list_children(node: &[u8], children: &mut Vec<Digest>) -> Result<(
 }
 
 /// Lists the digests of these children after those before.
-fn list_links(links: Children<'_>, children: &mut Vec<Digest>) -> Result<(), AllocError>
+pub(crate) fn list_links(links: Children<'_>, children: &mut Vec<Digest>) -> Result<(), AllocError>
     ensures { OnOk result (digests_of children.new.items
         ≡ digests_of children.old.items ++ map (λ (link : Link). link.child) links.entry) }
 {

@@ -7,15 +7,25 @@
 mod children;
 mod fault;
 mod file;
+mod gather;
+mod gathered;
 mod header;
+mod layout;
 mod learn;
 mod place;
 mod read_at;
 mod record;
+mod records;
+mod role;
+mod row;
 mod source;
 #[cfg(test)]
 mod tests;
+mod write_fault;
+mod writing;
 
 pub use fault::PackFault;
 pub use read_at::{ReadAt, ReadFault};
 pub use source::PackSource;
+pub use write_fault::WriteFault;
+pub use writing::write_pack;

@@ -1,5 +1,7 @@
 //! A small pack, as it is, with each bit turned, cut, and on devices that fail.
 
+mod writing;
+
 use crate::{PackFault, PackSource, ReadAt, ReadFault};
 use bumpalo::Bump;
 use outside_shelf::{NodeSource, OutsideShelf, Refused, SourceFault};

@@ -30,9 +30,9 @@ pub(crate) const LINES: [Explanation; 7] = [
     },
     Explanation {
         code: "too large",
-        meaning: "the answer or the proof to check has more bytes than --max-size allows",
+        meaning: "the answer or the proof to check has more bytes than --max-size allows, or a pack would have more than 2^48",
         place: "standard error, status 3",
-        advice: "Nothing was checked. If an answer may be that large, give a greater --max-size.",
+        advice: "Nothing was checked or written. If an answer may be that large, give a greater --max-size.",
     },
     Explanation {
         code: "no work",

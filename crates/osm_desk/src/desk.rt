@@ -19,7 +19,7 @@ use crate::desk_fault::DeskFault;
 use crate::event::Event;
 use crate::limits::CONNECTION_LIMIT;
 use opl_codec::Change;
-use osm_gate::Gate;
+use osm_gate::{Chunks, Gate, ResponseBytes};
 use osm_index::{AnnouncedFault, ApplyFault, Snapshot};
 use std::alloc::{AllocError, Global};
 use std::collections::BTreeMap;
@@ -206,21 +206,43 @@ impl Desk {
         ensures others { without self.new number ≡ without self.old number }
         ensures unchanged { OnErr result (self.new ≡ self.old) }
     {
-        self.hear_within(number, piece, None)
+        self.hear_as(number, piece, None)
     }
 
-    /// Takes a piece of a connection, as [`Desk::hear`] does, where each query has a budget, or none: one that passes it is
-    /// answered with 503 `too much work`, as by [`Gate::feed_within`]. Refused only where memory runs out, and then no part
-    /// of the piece was taken.
+    /// Takes a piece of a connection, as [`Desk::hear`] does, where each query has a budget, or none: one that passes it
+    /// is answered with 503 `too much work`, as by [`Gate::feed_within`]. An answer or a proof of more than 64 MiB is a
+    /// chunk of its own, which isn't copied. Refused only where memory runs out, and then no part of the piece was taken.
     pub fn hear_within(
         &mut self,
         number: u32,
         piece: &[u8],
         most: Option<u64>,
-    ) -> Result<Vec<u8>, AllocError>
+    ) -> Result<Chunks, AllocError>
         ensures responses { (p : Publication) → HoldsPublication self.old.snapshot p
             → IfOk result (λ text. RespondsWithin most p
-            (requests_next (rest_of self.old number) piece.now).complete text.items) }
+            (requests_next (rest_of self.old number) piece.now).complete text) }
+        ensures rest { OnOk result (rest_of self.new number
+            ≡ (requests_next (rest_of self.old number) piece.now).rest) }
+        ensures open { IsSome (get self.old.connections number)
+            → OnOk result (self.new ≡ with_rest self.old number
+            (requests_next (rest_of self.old number) piece.now).rest) }
+        ensures others { without self.new number ≡ without self.old number }
+        ensures unchanged { OnErr result (self.new ≡ self.old) }
+    {
+        self.hear_as(number, piece, most)
+    }
+
+    /// Takes a piece of a connection, as [`Desk::hear_within`] does, and gives the responses in this form, as
+    /// [`Gate::feed_as`].
+    fn hear_as<R: ResponseBytes>(
+        &mut self,
+        number: u32,
+        piece: &[u8],
+        most: Option<u64>,
+    ) -> Result<R, AllocError>
+        ensures responses { (p : Publication) → HoldsPublication self.old.snapshot p
+            → IfOk result (λ text. RespondsWithin most p
+            (requests_next (rest_of self.old number) piece.now).complete (R.bytes text)) }
         ensures rest { OnOk result (rest_of self.new number
             ≡ (requests_next (rest_of self.old number) piece.now).rest) }
         ensures open { IsSome (get self.old.connections number)
@@ -230,9 +252,9 @@ impl Desk {
         ensures unchanged { OnErr result (self.new ≡ self.old) }
     {
         let Some(gate) = self.gates.get_mut(&number) else {
-            return Ok(Vec::new(self.alloc));
+            return Ok(R::none(self.alloc));
         };
-        gate.feed_within(piece, &self.snapshot, most)
+        gate.feed_as(piece, &self.snapshot, most)
     }
 
     /// Takes a piece of a connection, and gives the responses with its number.

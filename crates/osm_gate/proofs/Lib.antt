@@ -1,4 +1,5 @@
 pub mod shared
+pub mod ChunkLemmas
 pub mod ConnectionLemmas
 pub mod FeedLemmas
 pub mod NoMemory

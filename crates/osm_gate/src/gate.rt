@@ -7,7 +7,9 @@ ghost use Rattle.osm_gate.specs.Connections.{Responds, RespondsWithin, Rest, req
 ghost use Rattle.osm_gate.specs.Pieces.{CompletesOne, IsWanted};
 ghost use Rattle.osm_gate.specs.internal.Kept.{IsKept, ends_in_break};
 
-use crate::requests::respond_to_all;
+use crate::chunks::Chunks;
+use crate::requests::respond_as;
+use crate::response_bytes::ResponseBytes;
 use crate::route::{Route, routes};
 use matchit::{InsertError, Router};
 use osm_index::Snapshot;
@@ -101,22 +103,44 @@ impl Gate {
         // Out of memory the gate is as before: no part of the piece was taken.
         ensures unchanged { OnErr result (self.new ≡ self.old) }
     {
-        self.feed_within(piece, snapshot, None)
+        self.feed_as(piece, snapshot, None)
     }
 
-    /// Takes the next piece, as [`Gate::feed`] does, where each query has a budget, or none: one that passes it is answered
-    /// with 503 `too much work`, and the connection goes on. What is counted says [`ql_eval::evaluate_within`]. Refused only
-    /// where memory runs out.
+    /// Takes the next piece, as [`Gate::feed`] does, where each query has a budget, or none: one that passes it is
+    /// answered with 503 `too much work`, and the connection goes on. What is counted says [`ql_eval::evaluate_within`].
+    /// An answer or a proof of more than 64 MiB is a chunk of its own, which isn't copied. Refused only where memory runs
+    /// out.
     pub fn feed_within(
         &mut self,
         piece: &[u8],
         snapshot: &Snapshot,
         most: Option<u64>,
-    ) -> Result<Vec<u8>, AllocError>
+    ) -> Result<Chunks, AllocError>
         // What is given responds to the requests of what was left and of this piece,
         ensures responses { (p : Publication) → HoldsPublication snapshot.now p
             → IfOk result (λ responses.
-            RespondsWithin most p (requests_next self.old piece.now).complete responses.items) }
+            RespondsWithin most p (requests_next self.old piece.now).complete responses) }
+        // and what is left of both is left.
+        ensures rest { IfOk result (λ responses.
+            self.new ≡ (requests_next self.old piece.now).rest) }
+        // Out of memory the gate is as before: no part of the piece was taken.
+        ensures unchanged { OnErr result (self.new ≡ self.old) }
+    {
+        self.feed_as(piece, snapshot, most)
+    }
+
+    /// Takes the next piece, as [`Gate::feed_within`] does, and gives the responses in this form: as chunks, or in one
+    /// vector. Refused only where memory runs out.
+    pub fn feed_as<R: ResponseBytes>(
+        &mut self,
+        piece: &[u8],
+        snapshot: &Snapshot,
+        most: Option<u64>,
+    ) -> Result<R, AllocError>
+        // What is given responds to the requests of what was left and of this piece,
+        ensures responses { (p : Publication) → HoldsPublication snapshot.now p
+            → IfOk result (λ responses.
+            RespondsWithin most p (requests_next self.old piece.now).complete (R.bytes responses)) }
         // and what is left of both is left.
         ensures rest { IfOk result (λ responses.
             self.new ≡ (requests_next self.old piece.now).rest) }
@@ -124,17 +148,17 @@ impl Gate {
         ensures unchanged { OnErr result (self.new ≡ self.old) }
     {
         if self.is_closed {
-            return Ok(Vec::new(self.alloc));
+            return Ok(R::none(self.alloc));
         }
         let before = self.rest.len();
         self.rest.extend_from_slice(piece)?;
         if self.rest.len() < self.needed {
-            return Ok(Vec::new(self.alloc));
+            return Ok(R::none(self.alloc));
         }
         // Without a complete head all of the rest has been scanned; with one there is no need to scan it again.
         let scanned = if self.needed == 0 { before } else { 0 };
         let rest = self.rest.as_slice();
-        let (responses, left) = match respond_to_all(
+        let (responses, left) = match respond_as(
             self.alloc,
             &self.router,
             snapshot,

@@ -1,11 +1,11 @@
 //! Laws of connections, and of their limits.
 
-ghost use Rattle.std.specs.Prelude.{◌≡◌, ◌++◌, ◌∷◌, ◌+◌, ◌^◌, ◌<◌, ℕ, List, Option, [], length, true};
+ghost use Rattle.std.specs.Prelude.{◌≡◌, ◌++◌, ◌∷◌, ◌+◌, ◌*◌, ◌^◌, ◌<◌, ℕ, List, Option, [], length, true};
 ghost use Rattle.osm_keys.specs.Publications.{IsPublication, Publication};
 ghost use Rattle.osm_gate.specs.Connections.{Responds, RespondsWithin, Rest, closed_rest, requests_in, requests_next, joined_requests};
 ghost use Rattle.http_messages.specs.Requests.{Request};
 ghost use Rattle.http_messages.specs.declared.limits.TheConstants.{BODY_LIMIT, HEAD_LIMIT};
-ghost use Rattle.osm_gate.specs.declared.limits.TheConstants.{PIECE_LIMIT, READ_LIMIT};
+ghost use Rattle.osm_gate.specs.declared.limits.TheConstants.{LARGE_ANSWER, PIECE_LIMIT, READ_LIMIT};
 ghost use Rattle.osm_gate.specs.Pieces.{CompletesOne, IsCut};
 ghost use Rattle.osm_gate.specs.Serving.{longest_piece, most_reads};
 
@@ -58,8 +58,10 @@ pub fn rests_are_short()
     ensures { (bytes : List ℕ) → length (requests_in bytes).rest.bytes < HEAD_LIMIT + BODY_LIMIT }
 {}
 
-/// A law: the limits of a connection, as numbers: the bytes of a piece, and the reads.
+/// A law: the limits of a connection, as numbers: the bytes of a piece, the reads, and the bytes of an answer that is
+/// still copied.
 pub fn limits_law()
     ensures pieces { (PIECE_LIMIT ≡ 8192) × (longest_piece ≡ 8192) }
     ensures reads { (READ_LIMIT ≡ 2 ^ 20) × (most_reads ≡ 2 ^ 20) }
+    ensures copies { LARGE_ANSWER ≡ 64 * 2 ^ 20 }
 {}

@@ -8,10 +8,12 @@ ghost use Rattle.http_messages.specs.ResponseTexts.{response_text};
 ghost use Rattle.osm_gate.specs.Responses.{ByQueryWithin, checked_body, fault_text, ok_response};
 ghost use Rattle.osm_gate.specs.internal.Adding.{AddsFault, AddsResponse};
 
+use crate::chunks::{Chunks, is_large};
 use crate::endpoint::Endpoint;
 use crate::reply::Reply;
-use crate::response::{write_ok, write_refusal};
+use crate::response::{write_ok, write_ok_head, write_refusal};
 use http::StatusCode;
+use http_messages::total_len;
 use osm_index::Snapshot;
 use osm_prove::{Answered, ProveFault, Proved, answer_within, prove_within};
 use ql_syntax::QlFault;
@@ -21,7 +23,7 @@ use std::alloc::{AllocError, Global};
 /// the budget, where there is one. Out of memory it leaves what it wrote.
 pub(crate) fn respond_to_query(
     alloc: Global,
-    output: &mut Vec<u8>,
+    output: &mut Chunks,
     reply: Reply,
     snapshot: &Snapshot,
     query: &[u8],
@@ -29,74 +31,88 @@ pub(crate) fn respond_to_query(
 ) -> Result<(), AllocError>
     ensures { (p : Publication) → HoldsPublication snapshot.now p
         → OnOk result (AddsResponse (ByQueryWithin most reply p (Some query.now))
-        output.old.items output.new.items) }
+        output.old output.new) }
 {
     match reply.endpoint {
         Endpoint::Answer => match answer_within(alloc, snapshot, query, most) {
-            Ok(answered) => write_answer(alloc, output, reply.closes, &answered),
+            Ok(answered) => write_answer(output, reply.closes, answered),
             Err(fault) => write_fault(alloc, output, reply.closes, fault),
         },
         Endpoint::AnswerWithProof => match prove_within(alloc, snapshot, query, most) {
-            Ok(proved) => write_answer_with_proof(alloc, output, reply.closes, &proved),
+            Ok(proved) => write_answer_with_proof(output, reply.closes, proved),
             Err(fault) => write_fault(alloc, output, reply.closes, fault),
         },
     }
 }
 
-/// Appends the answer.
-fn write_answer(
-    alloc: Global,
-    output: &mut Vec<u8>,
-    closes: bool,
-    answered: &Answered,
-) -> Result<(), AllocError>
-    ensures { OnOk result (output.new.items ≡ output.old.items
-        ++ response_text (ok_response closes answered.now.root.0 false answered.now.answer.items)) }
+/// Appends the answer. A large one is moved, and not copied. Out of memory it leaves what it wrote.
+fn write_answer(output: &mut Chunks, closes: bool, answered: Answered) -> Result<(), AllocError>
+    ensures { OnOk result (output.new ≡ output.old
+        ++ response_text (ok_response closes answered.root.0 false answered.answer.items)) }
 {
-    let body = [answered.answer.as_slice()];
-    write_ok(alloc, output, closes, &answered.root, false, &body)
+    let Answered { root, answer } = answered;
+    if !is_large(&answer) {
+        let body = [answer.as_slice()];
+        return write_ok(output, closes, &root, false, &body);
+    }
+    write_ok_head(output, closes, &root, false, answer.len())?;
+    output.push_chunk(answer)
 }
 
-/// Appends what a client can check: the root, the length of the answer, the answer and the proof.
+/// Appends what a client can check: the root, the length of the answer, the answer and the proof. An answer or a proof
+/// that is large is moved, and not copied. Out of memory it leaves what it wrote.
 fn write_answer_with_proof(
-    alloc: Global,
-    output: &mut Vec<u8>,
+    output: &mut Chunks,
     closes: bool,
-    proved: &Proved,
+    proved: Proved,
 ) -> Result<(), AllocError>
-    ensures { OnOk result (output.new.items ≡ output.old.items
-        ++ response_text (ok_response closes proved.now.root.0 true
-        (checked_body proved.now.root.0 proved.now.answer.items proved.now.proof.items))) }
+    ensures { OnOk result (output.new ≡ output.old
+        ++ response_text (ok_response closes proved.root.0 true
+        (checked_body proved.root.0 proved.answer.items proved.proof.items))) }
 {
-    let answer = proved.answer.as_slice();
+    let Proved {
+        root,
+        answer,
+        proof,
+    } = proved;
     let length = (answer.len() as u64).to_be_bytes();
     let body = [
-        proved.root.0.as_slice(),
+        root.0.as_slice(),
         length.as_slice(),
-        answer,
-        proved.proof.as_slice(),
+        answer.as_slice(),
+        proof.as_slice(),
     ];
-    write_ok(alloc, output, closes, &proved.root, true, &body)
+    if !is_large(&answer) && !is_large(&proof) {
+        return write_ok(output, closes, &root, true, &body);
+    }
+    let Some(body_len) = total_len(&body) else {
+        return Err(AllocError);
+    };
+    write_ok_head(output, closes, &root, true, body_len)?;
+    output.push(root.0.as_slice())?;
+    output.push(length.as_slice())?;
+    output.push_owned(answer)?;
+    output.push_owned(proof)
 }
 
 /// Appends why a query has no answer. It is refused where memory had run out already.
 fn write_fault(
     alloc: Global,
-    output: &mut Vec<u8>,
+    output: &mut Chunks,
     closes: bool,
     fault: ProveFault,
 ) -> Result<(), AllocError>
-    ensures { OnOk result (AddsFault closes fault output.old.items output.new.items) }
+    ensures { OnOk result (AddsFault closes fault output.old output.new) }
 {
     match fault {
         ProveFault::Query(fault) => {
             let text = fault_text(alloc, &fault)?;
             let status = StatusCode::BAD_REQUEST;
-            write_refusal(alloc, output, closes, status, text.as_str())
+            write_refusal(output, closes, status, text.as_str())
         }
         ProveFault::Work => {
             let status = StatusCode::SERVICE_UNAVAILABLE;
-            write_refusal(alloc, output, closes, status, "too much work")
+            write_refusal(output, closes, status, "too much work")
         }
         ProveFault::Memory => Err(AllocError),
     }

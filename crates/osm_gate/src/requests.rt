@@ -11,7 +11,9 @@ ghost use Rattle.osm_gate.specs.internal.Kept.{IsOpen};
 ghost use Rattle.osm_gate.specs.internal.Steps.{StepIs, rest_at};
 ghost use Rattle.http_messages.specs.declared.limits.TheConstants.{HEAD_LIMIT};
 
+use crate::chunks::Chunks;
 use crate::respond::{refuse, respond};
+use crate::response_bytes::ResponseBytes;
 use crate::route::Route;
 use http_messages::{Decision, first_request, without_breaks};
 use matchit::Router;
@@ -37,26 +39,49 @@ pub(crate) enum Step {
     Next { used: usize },
 }
 
-/// The responses to all complete requests, each query of which has the budget, where there is one, and what is left unless
-/// the connection ends. The first `scanned` bytes, those without CR and LF before them, are known to hold no complete head.
-pub(crate) fn respond_to_all(
+/// The responses to all complete requests, as [`respond_to_all`] gives them, in this form.
+pub(crate) fn respond_as<R: ResponseBytes>(
     alloc: Global,
     router: &Router<Route>,
     snapshot: &Snapshot,
     bytes: &[u8],
     scanned: usize,
     most: Option<u64>,
-) -> Result<(Vec<u8>, Option<Open>), AllocError>
+) -> Result<(R, Option<Open>), AllocError>
     requires router { router.now ≡ route_rows }
     requires scanned { head_length (take scanned (take HEAD_LIMIT (skip_breaks bytes.now))) ≡ None }
     ensures responses { (p : Publication) → HoldsPublication snapshot.now p
         → IfOk result (λ both.
-        RespondsWithin most p (requests_in bytes.now).complete both.0.items) }
+        RespondsWithin most p (requests_in bytes.now).complete (R.bytes both.0)) }
     ensures rest { IfOk result (λ both. (requests_in bytes.now).rest ≡ rest_at bytes.now both.1) }
     ensures open { IfOk result (λ both. IfSome both.1 (λ open_at. (open_at.at ≤ length bytes.now)
         × IsOpen open_at.needed (drop open_at.at bytes.now))) }
 {
-    let mut responses = Vec::new(alloc);
+    let (chunks, left) = respond_to_all(alloc, router, snapshot, bytes, scanned, most)?;
+    let responses = R::of_chunks(chunks)?;
+    Ok((responses, left))
+}
+
+/// The responses to all complete requests, each query of which has the budget, where there is one, and what is left unless
+/// the connection ends. The first `scanned` bytes, those without CR and LF before them, are known to hold no complete head.
+fn respond_to_all(
+    alloc: Global,
+    router: &Router<Route>,
+    snapshot: &Snapshot,
+    bytes: &[u8],
+    scanned: usize,
+    most: Option<u64>,
+) -> Result<(Chunks, Option<Open>), AllocError>
+    requires router { router.now ≡ route_rows }
+    requires scanned { head_length (take scanned (take HEAD_LIMIT (skip_breaks bytes.now))) ≡ None }
+    ensures responses { (p : Publication) → HoldsPublication snapshot.now p
+        → IfOk result (λ both.
+        RespondsWithin most p (requests_in bytes.now).complete both.0) }
+    ensures rest { IfOk result (λ both. (requests_in bytes.now).rest ≡ rest_at bytes.now both.1) }
+    ensures open { IfOk result (λ both. IfSome both.1 (λ open_at. (open_at.at ≤ length bytes.now)
+        × IsOpen open_at.needed (drop open_at.at bytes.now))) }
+{
+    let mut responses = Chunks::new(alloc);
     let mut rest = bytes;
     let mut scanned = scanned;
     loop {
@@ -87,7 +112,7 @@ pub(crate) fn respond_to_all(
 /// Appends the response to the first request, where it is complete.
 fn respond_to_first(
     alloc: Global,
-    responses: &mut Vec<u8>,
+    responses: &mut Chunks,
     router: &Router<Route>,
     snapshot: &Snapshot,
     bytes: &[u8],
@@ -98,13 +123,13 @@ fn respond_to_first(
     requires begins { begins_with_break bytes.now ≡ false }
     requires scanned { head_length (take scanned (take HEAD_LIMIT bytes.now)) ≡ None }
     ensures { IfOk result
-        (λ step. StepIs most step snapshot.now bytes.now responses.old.items responses.new.items) }
+        (λ step. StepIs most step snapshot.now bytes.now responses.old responses.new) }
 {
     match first_request(bytes, scanned) {
         Decision::HeadOpen => Ok(Step::Open { needed: 0 }),
         Decision::BodyOpen { needed } => Ok(Step::Open { needed }),
         Decision::Refused { refusal, used: _ } => {
-            refuse(alloc, responses, refusal)?;
+            refuse(responses, refusal)?;
             Ok(Step::Ended)
         }
         Decision::Complete { request, used } => {

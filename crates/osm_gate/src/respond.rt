@@ -10,6 +10,7 @@ ghost use Rattle.osm_gate.specs.Routes.{route_rows};
 ghost use Rattle.osm_gate.specs.internal.Adding.{AddsResponse};
 ghost use Rattle.http_messages.specs.Decisions.{asked_of};
 
+use crate::chunks::Chunks;
 use crate::query_response::respond_to_query;
 use crate::reply::Reply;
 use crate::response::{write_not_allowed, write_ok, write_refusal};
@@ -25,7 +26,7 @@ use std::alloc::{AllocError, Global};
 #[tactic(auto, unfolding(crate::specs::Responses::IsResponseWithin))]
 pub(crate) fn respond(
     alloc: Global,
-    output: &mut Vec<u8>,
+    output: &mut Chunks,
     router: &Router<Route>,
     snapshot: &Snapshot,
     request: &Request<'_>,
@@ -34,7 +35,7 @@ pub(crate) fn respond(
     requires { router.now ≡ route_rows }
     ensures text { (p : Publication) → HoldsPublication snapshot.now p
         → OnOk result (AddsResponse (IsResponseWithin most p (asked_of request.now))
-        output.old.items output.new.items) }
+        output.old output.new) }
     ensures closes { IfOk result (λ closes. closes ≡ ends (asked_of request.now)) }
 {
     let closes = request.closes || request.method == b"HEAD".as_slice();
@@ -46,7 +47,7 @@ pub(crate) fn respond(
 
 fn respond_on(
     alloc: Global,
-    output: &mut Vec<u8>,
+    output: &mut Chunks,
     closes: bool,
     snapshot: &Snapshot,
     request: &Request<'_>,
@@ -55,11 +56,11 @@ fn respond_on(
 ) -> Result<(), AllocError>
     ensures { (p : Publication) → HoldsPublication snapshot.now p
         → OnOk result (AddsResponse (ByRouteWithin most closes p (asked_of request.now) route)
-        output.old.items output.new.items) }
+        output.old output.new) }
 {
     let method = method_of(request.method);
     match route {
-        None => write_refusal(alloc, output, closes, StatusCode::NOT_FOUND, "not found"),
+        None => write_refusal(output, closes, StatusCode::NOT_FOUND, "not found"),
         Some(Route::Query(endpoint)) => {
             let reply = Reply { endpoint, closes };
             respond_query(alloc, output, reply, snapshot, request, method, most)
@@ -70,7 +71,7 @@ fn respond_on(
 
 fn respond_query(
     alloc: Global,
-    output: &mut Vec<u8>,
+    output: &mut Chunks,
     reply: Reply,
     snapshot: &Snapshot,
     request: &Request<'_>,
@@ -79,7 +80,7 @@ fn respond_query(
 ) -> Result<(), AllocError>
     ensures { (p : Publication) → HoldsPublication snapshot.now p
         → OnOk result (AddsResponse (ByMethodWithin most reply p (asked_of request.now) method)
-        output.old.items output.new.items) }
+        output.old output.new) }
 {
     match method {
         Method::Get => answer(
@@ -100,13 +101,13 @@ fn respond_query(
             request,
             most,
         ),
-        Method::Other => write_not_allowed(alloc, output, reply.closes, "GET, POST"),
+        Method::Other => write_not_allowed(output, reply.closes, "GET, POST"),
     }
 }
 
 fn answer(
     alloc: Global,
-    output: &mut Vec<u8>,
+    output: &mut Chunks,
     reply: Reply,
     snapshot: &Snapshot,
     source: QuerySource,
@@ -115,41 +116,37 @@ fn answer(
 ) -> Result<(), AllocError>
     ensures { (p : Publication) → HoldsPublication snapshot.now p
         → OnOk result (AddsResponse (ByQueryWithin most reply p (query_of source (asked_of request.now)))
-        output.old.items output.new.items) }
+        output.old output.new) }
 {
     let Some(query) = query_of(alloc, source, request)? else {
         let status = StatusCode::BAD_REQUEST;
-        return write_refusal(alloc, output, reply.closes, status, "no data");
+        return write_refusal(output, reply.closes, status, "no data");
     };
     respond_to_query(alloc, output, reply, snapshot, query.as_bytes(), most)
 }
 
 fn respond_root(
     alloc: Global,
-    output: &mut Vec<u8>,
+    output: &mut Chunks,
     closes: bool,
     snapshot: &Snapshot,
     method: Method,
 ) -> Result<(), AllocError>
-    ensures { OnOk result (output.new.items ≡ output.old.items
+    ensures { OnOk result (output.new ≡ output.old
         ++ response_text (root_by_method closes snapshot.now.root.0 method)) }
 {
     if method != Method::Get {
-        return write_not_allowed(alloc, output, closes, "GET");
+        return write_not_allowed(output, closes, "GET");
     }
     let digits = hex::encode(alloc, &snapshot.root().0)?;
     let body = [digits.as_bytes(), b"\n"];
-    write_ok(alloc, output, closes, snapshot.root(), false, &body)
+    write_ok(output, closes, snapshot.root(), false, &body)
 }
 
 /// Appends the response to a request that is refused as it stands. Out of memory it leaves what it wrote.
-pub(crate) fn refuse(
-    alloc: Global,
-    output: &mut Vec<u8>,
-    refusal: Refusal,
-) -> Result<(), AllocError>
-    ensures { OnOk result (output.new.items ≡ output.old.items
+pub(crate) fn refuse(output: &mut Chunks, refusal: Refusal) -> Result<(), AllocError>
+    ensures { OnOk result (output.new ≡ output.old
         ++ response_text (refused_response refusal)) }
 {
-    write_refusal(alloc, output, true, refusal.status(), refusal.text())
+    write_refusal(output, true, refusal.status(), refusal.text())
 }

@@ -14,8 +14,11 @@ mod in_words;
 mod input_file;
 mod one_file;
 mod output_file;
+mod pack_file;
+mod packing;
 mod progress;
 mod proving;
+mod querying;
 mod relaying;
 mod root_file;
 mod server_errors;
@@ -30,8 +33,10 @@ use crate::checking::start_check;
 use crate::clean_output::CleanOutput;
 use crate::fetching::start_fetch;
 use crate::in_words::Subject;
+use crate::packing::pack_file;
 use crate::progress::Progress;
 use crate::proving::start_prove;
+use crate::querying::start_query;
 use crate::relaying::start_relay;
 use crate::serving::start_serve;
 use crate::telling::{NOTHING, report, trouble_of, watched_file};
@@ -82,6 +87,12 @@ fn run_job(rt: &HostRuntime, job: Job) -> Status {
         Job::Prove { .. } => start_prove(rt, job),
         Job::Check { .. } => start_check(rt, job),
         Job::Fetch { .. } => start_fetch(rt, job),
+        Job::Pack {
+            file,
+            pack_file: place,
+            edition,
+        } => pack_file(rt, &file, &place, edition),
+        Job::Query { .. } => start_query(rt, job),
         Job::Serve { .. } => start_serve(rt, job),
         Job::Relay { .. } => start_relay(rt, job),
         Job::Explain { code } => explain_code(rt, &code),

@@ -1,6 +1,7 @@
 pub mod MapLemmas
 pub mod OutputLemmas
 pub mod PieceLemmas
+pub mod ChunkLemmas
 pub mod DeedLemmas
 pub mod RunLemmas
 pub mod PastLemmas

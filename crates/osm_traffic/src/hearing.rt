@@ -63,7 +63,7 @@ fn may_read(desk: &Desk, outputs: &Outputs, number: u32) -> bool
     ensures open { IsTrue result → IsSome (get desk.now.connections number) }
 {
     match outputs.output(number) {
-        Some(output) => output.bytes().is_empty() && desk.is_open(number),
+        Some(output) => output.is_empty() && desk.is_open(number),
         None => false,
     }
 }

@@ -63,7 +63,7 @@ pub(crate) fn let_go<T: Traffic, E: Write>(
     let Some(output) = outputs.output(number) else {
         return;
     };
-    if !output.bytes().is_empty() {
+    if !output.is_empty() {
         break_off(desk, outputs, traffic, errors, number, GateFault::Writer);
         return;
     }

@@ -1,42 +1,36 @@
 //! What one connection has coming.
 
-ghost use Rattle.std.specs.Prelude.{◌≡◌, ◌≤◌, length, drop, []};
+ghost use Rattle.std.specs.Prelude.{◌≡◌, ◌++◌, ◌<◌, ◌≤◌, ◌↔◌, ℕ, IsTrue, List, length, drop, []};
 ghost use Rattle.osm_gate.specs.Serving.{no_memory};
 ghost use Rattle.osm_traffic.specs.internal.Texts.{bytes_of};
 
-use osm_gate::no_memory_response;
+use osm_gate::{Chunks, Unsent, no_memory_response};
 use std::marker::Model;
 
-/// What is written to a connection.
+/// What is left to be written to a connection.
 #[derive(Drop)]
 pub(crate) enum Text {
-    /// No bytes.
-    Nothing,
-    /// Answers.
-    Answers(Vec<u8>),
-    /// That memory ran out.
-    Apology,
+    /// The rest of a fixed text.
+    Fixed(&'static [u8]),
+    /// The rest of answers.
+    Answers(Unsent),
 }
 
 /// What a connection has coming. Contracts see it as the bytes that its socket hasn't taken yet.
 #[derive(Drop)]
 pub(crate) struct Output {
     text: Text,
-    /// So many bytes of the text were taken.
-    from: usize,
     /// The connection ends once all is taken.
     is_last: bool,
 }
 
 impl Model for Output {
-    ghost use Rattle.std.specs.Prelude.{List, ℕ, drop, ◌≤◌, length};
+    ghost use Rattle.std.specs.Prelude.{List, ℕ};
     ghost use Rattle.osm_traffic.specs.internal.Texts.{bytes_of};
 
     ghost Value = { List ℕ };
 
-    ghost view = { λ output. drop output.from (bytes_of output.text) };
-
-    ghost invariant = { λ output. output.from ≤ length (bytes_of output.text) };
+    ghost view = { λ output. bytes_of output.text };
 }
 
 impl Output {
@@ -45,19 +39,17 @@ impl Output {
         ensures { result ≡ [] }
     {
         Output {
-            text: Text::Nothing,
-            from: 0,
+            text: Text::Fixed(b""),
             is_last: false,
         }
     }
 
     /// These answers.
-    pub(crate) fn answers(text: Vec<u8>, is_last: bool) -> Output
-        ensures { result ≡ text.items }
+    pub(crate) fn answers(chunks: Chunks, is_last: bool) -> Output
+        ensures { result ≡ chunks }
     {
         Output {
-            text: Text::Answers(text),
-            from: 0,
+            text: Text::Answers(Unsent::new(chunks)),
             is_last,
         }
     }
@@ -67,17 +59,27 @@ impl Output {
         ensures { result ≡ no_memory }
     {
         Output {
-            text: Text::Apology,
-            from: 0,
+            text: Text::Fixed(no_memory_response()),
             is_last: true,
         }
     }
 
-    /// What is left.
+    /// What is left of the first chunk; nothing only where nothing is left at all.
     pub(crate) fn bytes(&self) -> &[u8]
-        ensures { result.now ≡ self.now }
+        ensures front { (rest : List ℕ) × (self.now ≡ result.now ++ rest) }
+        ensures some { 0 < length self.now → 0 < length result.now }
     {
-        &bytes_of(&self.text)[self.from..]
+        match &self.text {
+            Text::Fixed(text) => text,
+            Text::Answers(unsent) => unsent.bytes(),
+        }
+    }
+
+    /// Whether nothing is left.
+    pub(crate) fn is_empty(&self) -> bool
+        ensures { IsTrue result ↔ (self.now ≡ []) }
+    {
+        self.bytes().is_empty()
     }
 
     /// Becomes that output.
@@ -92,32 +94,14 @@ impl Output {
         self.is_last
     }
 
-    /// So many bytes were taken. Once all were, their memory is free again.
+    /// So many bytes were taken. The memory of each chunk is free again once all of it is taken.
     pub(crate) fn advance(&mut self, count: usize)
         requires { count ≤ length self.old }
         ensures { self.new ≡ drop count self.old }
     {
-        let left = self.bytes().len();
-        if count == left {
-            *self = Output {
-                text: Text::Nothing,
-                from: 0,
-                is_last: self.is_last,
-            };
-            return;
+        match &mut self.text {
+            Text::Fixed(text) => *text = &text[count..],
+            Text::Answers(unsent) => unsent.advance(count),
         }
-        // What is left of it has so many bytes at least, so the sum fits.
-        let _all = bytes_of(&self.text).len();
-        self.from += count;
-    }
-}
-
-fn bytes_of(text: &Text) -> &[u8]
-    ensures { result.now ≡ bytes_of text.now }
-{
-    match text {
-        Text::Nothing => &[],
-        Text::Answers(text) => text,
-        Text::Apology => no_memory_response(),
     }
 }

@@ -1,7 +1,9 @@
 //! What goes out.
 
-ghost use Rattle.std.specs.Prelude.{◌≡◌, ℕ, Option};
+ghost use Rattle.std.specs.FinMap.{get};
+ghost use Rattle.std.specs.Prelude.{◌≡◌, ◌<◌, ℕ, IsTrue, Option, length};
 ghost use Rattle.osm_traffic.specs.internal.Standing.{Keeps};
+ghost use Rattle.osm_traffic.specs.internal.Texts.{coming};
 
 use crate::leaving::{break_off, part};
 use crate::outputs::Outputs;
@@ -10,8 +12,8 @@ use osm_desk::Desk;
 use osm_gate::GateFault;
 use std::io::Write;
 
-/// Gives a connection what it has coming, as far as its socket takes it. The connection ends where that was its last and
-/// all is taken, or where it is broken.
+/// Gives a connection what it has coming, a chunk after the other, as far as its socket takes it. The connection ends
+/// where that was its last and all is taken, or where it is broken.
 pub(crate) fn hand<T: Traffic, E: Write>(
     desk: &mut Desk,
     outputs: &mut Outputs,
@@ -23,24 +25,39 @@ pub(crate) fn hand<T: Traffic, E: Write>(
         outputs.old outputs.new desk.old desk.new }
     ensures snapshot { desk.new.snapshot ≡ desk.old.snapshot }
 {
+    'chunks: while hand_chunk(desk, outputs, traffic, errors, number) {}
+}
+
+/// Gives a connection the first chunk of what it has coming, and tells whether its socket took all of the chunk, so that
+/// it may take another. Where nothing is left and that was its last, the connection ends.
+fn hand_chunk<T: Traffic, E: Write>(
+    desk: &mut Desk,
+    outputs: &mut Outputs,
+    traffic: &mut T,
+    errors: &mut E,
+    number: u32,
+) -> bool
+    ensures kept { (most : Option ℕ) → Keeps most (T.log traffic.old) (T.log traffic.new)
+        outputs.old outputs.new desk.old desk.new }
+    ensures snapshot { desk.new.snapshot ≡ desk.old.snapshot }
+    ensures fewer { IsTrue result → length (coming (get outputs.new number))
+        < length (coming (get outputs.old number)) }
+{
     let Some(output) = outputs.output(number) else {
-        return;
+        return false;
     };
-    let bytes = output.bytes();
-    let is_last = output.is_last();
-    if bytes.is_empty() {
-        if is_last {
+    if output.is_empty() {
+        if output.is_last() {
             part(desk, outputs, traffic, number, true);
         }
-        return;
+        return false;
     }
+    let bytes = output.bytes();
     let length = bytes.len();
     let Writing::Took(count) = traffic.write(number, bytes) else {
         break_off(desk, outputs, traffic, errors, number, GateFault::Writer);
-        return;
+        return false;
     };
     outputs.advance(number, count);
-    if is_last && count == length {
-        part(desk, outputs, traffic, number, true);
-    }
+    count == length
 }

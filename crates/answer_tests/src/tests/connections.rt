@@ -1,6 +1,7 @@
 //! Connections over small sets of objects.
 
 mod checked;
+mod chunks;
 mod further_rows;
 mod memory;
 mod pieces;

@@ -9,6 +9,8 @@ use Rattle.command_line.specs.ChangesCommand.{changes_name}
 use Rattle.command_line.specs.ProveCommand.{prove_name}
 use Rattle.command_line.specs.CheckCommand.{check_name}
 use Rattle.command_line.specs.FetchCommand.{fetch_name}
+use Rattle.command_line.specs.PackCommand.{pack_name}
+use Rattle.command_line.specs.QueryCommand.{query_name}
 use Rattle.command_line.specs.ServeCommand.{serve_name}
 use Rattle.command_line.specs.RelayCommand.{relay_name}
 use Rattle.command_line.specs.ExplainCommand.{explain_name}
@@ -21,4 +23,4 @@ IsCommand app c = (app_of c ≡ app) × ((fields_of c).has_globals ≡ false)
 abbrev pub IsCommandName : Text → Type 0
 IsCommandName name =
     (name ≡ ask_name) ⊎ ((name ≡ publish_name) ⊎ ((name ≡ changes_name) ⊎ ((name ≡ prove_name) ⊎ ((name ≡ check_name)
-    ⊎ ((name ≡ fetch_name) ⊎ ((name ≡ serve_name) ⊎ ((name ≡ relay_name) ⊎ (name ≡ explain_name))))))))
+    ⊎ ((name ≡ fetch_name) ⊎ ((name ≡ pack_name) ⊎ ((name ≡ query_name) ⊎ ((name ≡ serve_name) ⊎ ((name ≡ relay_name) ⊎ (name ≡ explain_name))))))))))

@@ -7,10 +7,10 @@ use std::test::Fail;
 
 /// The words before ROOT and after it, and the job's name and its fields after the root, as `Debug` shows them.
 pub(super) struct Row {
-    before: &'static str,
-    after: &'static str,
-    name: &'static str,
-    fields: &'static str,
+    pub(super) before: &'static str,
+    pub(super) after: &'static str,
+    pub(super) name: &'static str,
+    pub(super) fields: &'static str,
 }
 
 pub(super) const FETCH: [Row; 6] = [

@@ -2,6 +2,7 @@
 
 use super::check::{is_check, read_check};
 use super::fetch_and_relay::{FETCH, RELAY, is_row};
+use super::pack_and_query::{PACK, QUERY};
 use super::publish_prove_changes::CHANGES;
 use super::{are_shown, words_of};
 use command_line::{Form, Job, WordsFault, read_words};
@@ -45,7 +46,8 @@ fn reads_check_within_memory(rt: HostRuntime) -> Result<(), AllocError> {
 fn reads_new_commands_within_memory(rt: HostRuntime) -> Result<(), Fail> {
     is_row(&rt, rt.alloc(), &FETCH[1])?;
     is_row(&rt, rt.alloc(), &RELAY[1])?;
-    are_shown(&rt, rt.alloc(), &[CHANGES[0]])
+    is_row(&rt, rt.alloc(), &QUERY[1])?;
+    are_shown(&rt, rt.alloc(), &[CHANGES[0], PACK[1]])
 }
 
 /// A bad form stays one.

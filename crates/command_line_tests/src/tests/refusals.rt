@@ -15,7 +15,7 @@ fn refused(rt: &impl Abort, alloc: Global, line: &str) -> Result<String, Fail> {
 }
 
 /// Words that `clap` takes and that ask for nothing. Where two of them are wrong, ROOT is told.
-const REFUSED: [(&str, &str); 17] = [
+const REFUSED: [(&str, &str); 21] = [
     ("m ask q --form yaml", "bad form"),
     ("m ask q --form=", "bad form"),
     ("m ask q --form OPL", "bad form"),
@@ -28,7 +28,11 @@ const REFUSED: [(&str, &str); 17] = [
     ("m fetch --form= -- -x h:1 q", "bad root"),
     ("m relay 00 h:1 80", "bad root"),
     ("m relay x h:1 80 --fallback b:1", "bad root"),
+    ("m query 00 p q", "bad root"),
+    ("m query 00 p q --form yaml", "bad root"),
     ("m check 00 b c d", "bad root"),
+    ("m pack a b --edition 3", "bad edition"),
+    ("m pack a b --edition= --sequence 7", "bad edition"),
     ("m publish a --edition 3", "bad edition"),
     ("m serve a 80 --edition 1 --changes b", "bad edition"),
     (
@@ -47,18 +51,21 @@ fn refuses_words(rt: HostRuntime) -> Result<(), Fail> {
     Ok(())
 }
 
-/// Words after `fetch` and a root of 64 digits, with a bad form.
-const BAD_FORMS: [&str; 4] = [
-    "h:1 q --form yaml",
-    "h:1 q --form=",
-    "h:1 q --form Json",
-    "h:1 q --form x --max-size 9",
+/// A command, and words after it and a root of 64 digits, with a bad form.
+const BAD_FORMS: [(&str, &str); 7] = [
+    ("fetch", "h:1 q --form yaml"),
+    ("fetch", "h:1 q --form="),
+    ("fetch", "h:1 q --form Json"),
+    ("fetch", "h:1 q --form x --max-size 9"),
+    ("query", "p q --form yaml"),
+    ("query", "p q --form="),
+    ("query", "p q --form OPL --max-bytes 9"),
 ];
 
 #[test]
-fn refuses_forms_of_fetch(rt: HostRuntime) -> Result<(), Fail> {
-    for words in BAD_FORMS {
-        let line = format!(in rt.alloc(); "m fetch {ROOT} {words}")?;
+fn refuses_forms_after_a_root(rt: HostRuntime) -> Result<(), Fail> {
+    for (command, words) in BAD_FORMS {
+        let line = format!(in rt.alloc(); "m {command} {ROOT} {words}")?;
         let told = refused(&rt, rt.alloc(), &line)?;
         assert_eq!(rt; told.as_str(), "bad form", "{line}");
     }
@@ -66,7 +73,7 @@ fn refuses_forms_of_fetch(rt: HostRuntime) -> Result<(), Fail> {
 }
 
 /// Words that `clap` refuses, and how its text begins.
-const OF_CLAP: [(&str, &str); 22] = [
+const OF_CLAP: [(&str, &str); 28] = [
     ("m fetch a b", "error: the following required arguments"),
     ("m fetch a b c d", "error: unexpected argument 'd' found"),
     (
@@ -108,6 +115,21 @@ const OF_CLAP: [(&str, &str); 22] = [
     (
         "m ask a --form opl --form opl",
         "error: the argument '--form <FORM>' cannot be used multiple times",
+    ),
+    ("m pack a", "error: the following required arguments"),
+    ("m pack a b c", "error: unexpected argument 'c' found"),
+    (
+        "m pack a b --sequence x",
+        "error: invalid value 'x' for '--sequence <N>'",
+    ),
+    ("m query a b", "error: the following required arguments"),
+    (
+        "m query a b c --max-size 1",
+        "error: unexpected argument '--max-size' found",
+    ),
+    (
+        "m query a b c --max-bytes 18446744073709551616",
+        "error: invalid value '18446744073709551616' for '--max-bytes <BYTES>'",
     ),
     ("m relay a b", "error: the following required arguments"),
     (

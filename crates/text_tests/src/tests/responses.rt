@@ -2,7 +2,7 @@
 //! more.
 
 use http::StatusCode;
-use http_messages::{ResponseHead, append_response};
+use http_messages::{ResponseHead, append_head, append_response};
 use std::process::Abort;
 use std::test::Fail;
 
@@ -45,6 +45,23 @@ fn appends(
     Ok(())
 }
 
+/// Appends this head, for a body of so many bytes, to another response.
+fn appends_head(
+    rt: &(impl Abort + AllocGlobal),
+    head: &ResponseHead<'_>,
+    body: &[u8],
+    wanted: &[u8],
+) -> Result<(), Fail> {
+    let alloc = rt.alloc();
+    let mut output = BEFORE.to_vec(alloc)?;
+    if append_head(alloc, &mut output, head, body.len()).is_err() {
+        assert!(rt; output.as_slice() == BEFORE);
+        append_head(alloc, &mut output, head, body.len())?;
+    }
+    assert!(rt; output.strip_prefix(BEFORE) == wanted.strip_suffix(body));
+    Ok(())
+}
+
 #[test]
 fn responses_are_appended_or_memory_is_refused(rt: HostRuntime) -> Result<(), Fail> {
     let full = ResponseHead {
@@ -62,5 +79,7 @@ fn responses_are_appended_or_memory_is_refused(rt: HostRuntime) -> Result<(), Fa
         closes: false,
     };
     appends(&rt, &full, &[b"first", b"", b", last"], FULL)?;
-    appends(&rt, &bare, &[], BARE)
+    appends(&rt, &bare, &[], BARE)?;
+    appends_head(&rt, &full, b"first, last", FULL)?;
+    appends_head(&rt, &bare, b"", BARE)
 }

@@ -18,3 +18,7 @@ returns-clause-fetch c = λ root mirror query. (λ program. (refl, (refl, no_bud
 pub returns-clause-relay : goal.returns-clause-relay
 unfolding clap_on_literals
 returns-clause-relay c = λ root mirror. (λ program. (refl, (refl, no_budget)), λ program. (refl, (refl, greatest_budget)), λ program. refl)
+
+pub returns-clause-query : goal.returns-clause-query
+unfolding clap_on_literals
+returns-clause-query c = λ root place query. (λ program. (refl, (refl, no_budget)), λ program. (refl, (refl, greatest_budget)), λ program. refl)

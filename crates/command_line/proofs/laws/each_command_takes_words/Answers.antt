@@ -57,3 +57,15 @@ returns-clause-fetch_within c = λ program root mirror query. (refl, (refl, (ref
 pub returns-clause-relay_with : goal.returns-clause-relay_with
 unfolding clap_on_literals
 returns-clause-relay_with c = λ program root mirror. (refl, (refl, (refl, refl, refl, refl, refl, refl)))
+
+pub returns-clause-pack : goal.returns-clause-pack
+unfolding clap_on_literals
+returns-clause-pack c = λ program file pack. (refl, (refl, (refl, refl)))
+
+pub returns-clause-query : goal.returns-clause-query
+unfolding clap_on_literals
+returns-clause-query c = λ program root place query. (refl, (refl, (refl, refl, refl, refl)))
+
+pub returns-clause-query_within : goal.returns-clause-query_within
+unfolding clap_on_literals
+returns-clause-query_within c = λ program root place query. (refl, (refl, (refl, refl, refl, refl, refl)))

@@ -6,5 +6,5 @@ use Rattle.osm_gate.proofs.query_response.write_fault.Goals as goal
 
 pub returns-in-Work : goal.returns-in-Work
 returns-in-Work c =
-    subst (λ (f : ProveFault). OnOk c.write_refusal-in-Work.result (AddsFault c.args.closes f c.args.output.now.items c.write_refusal-in-Work.new.output.items)) (sym c.in-Work.is)
+    subst (λ (f : ProveFault). OnOk c.write_refusal-in-Work.result (AddsFault c.args.closes f c.args.output.now c.write_refusal-in-Work.new.output)) (sym c.in-Work.is)
     c.write_refusal-in-Work.ensures

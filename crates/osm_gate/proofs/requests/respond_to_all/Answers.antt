@@ -18,25 +18,25 @@ overflow_sub-at c =
 
 pub returns-in-Open-clause-responses : goal.returns-in-Open-clause-responses
 returns-in-Open-clause-responses c =
-    let step : StepIs c.args.most (Open c.in-Open.needed) c.args.snapshot.now c.without_breaks-start.result.now c.loop-responses.responses.items c.respond_to_first.new.responses.items =
+    let step : StepIs c.args.most (Open c.in-Open.needed) c.args.snapshot.now c.without_breaks-start.result.now c.loop-responses.responses c.respond_to_first.new.responses =
     rw c.in-Open.is at c.in_ok-needed.ensures in
     (step-open c.args.most c.args.snapshot.now c.args.bytes.now c.loop-responses.rest.now c.without_breaks-start.result.now
-    c.loop-responses.responses.items c.respond_to_first.new.responses.items c.without_breaks-start.ensures c.loop-responses.invariant.said c.in-Open.needed step).0
+    c.loop-responses.responses c.respond_to_first.new.responses c.without_breaks-start.ensures c.loop-responses.invariant.said c.in-Open.needed step).0
 
 pub returns-in-Open-clause-rest : goal.returns-in-Open-clause-rest
 returns-in-Open-clause-rest c =
-    let step : StepIs c.args.most (Open c.in-Open.needed) c.args.snapshot.now c.without_breaks-start.result.now c.loop-responses.responses.items c.respond_to_first.new.responses.items =
+    let step : StepIs c.args.most (Open c.in-Open.needed) c.args.snapshot.now c.without_breaks-start.result.now c.loop-responses.responses c.respond_to_first.new.responses =
     rw c.in-Open.is at c.in_ok-needed.ensures in
     let tail = tail-skip c.loop-responses.rest.now c.args.bytes.now c.loop-responses.invariant.tail in
     let place = tail-place (skip_breaks c.loop-responses.rest.now) c.args.bytes.now tail in
     let start = rw (← c.without_breaks-start.ensures) at place.1 in
     (step-open c.args.most c.args.snapshot.now c.args.bytes.now c.loop-responses.rest.now c.without_breaks-start.result.now
-    c.loop-responses.responses.items c.respond_to_first.new.responses.items c.without_breaks-start.ensures c.loop-responses.invariant.said c.in-Open.needed step).1
+    c.loop-responses.responses c.respond_to_first.new.responses c.without_breaks-start.ensures c.loop-responses.invariant.said c.in-Open.needed step).1
     ∙ ap open_rest start
 
 pub returns-in-Open-clause-open : goal.returns-in-Open-clause-open
 returns-in-Open-clause-open c =
-    let step : StepIs c.args.most (Open c.in-Open.needed) c.args.snapshot.now c.without_breaks-start.result.now c.loop-responses.responses.items c.respond_to_first.new.responses.items =
+    let step : StepIs c.args.most (Open c.in-Open.needed) c.args.snapshot.now c.without_breaks-start.result.now c.loop-responses.responses c.respond_to_first.new.responses =
     rw c.in-Open.is at c.in_ok-needed.ensures in
     let tail = tail-skip c.loop-responses.rest.now c.args.bytes.now c.loop-responses.invariant.tail in
     let place = tail-place (skip_breaks c.loop-responses.rest.now) c.args.bytes.now tail in
@@ -45,41 +45,41 @@ returns-in-Open-clause-open c =
 
 pub returns-in-Ended-clause-responses : goal.returns-in-Ended-clause-responses
 returns-in-Ended-clause-responses c =
-    let step : StepIs c.args.most Ended c.args.snapshot.now c.without_breaks-start.result.now c.loop-responses.responses.items c.respond_to_first.new.responses.items =
+    let step : StepIs c.args.most Ended c.args.snapshot.now c.without_breaks-start.result.now c.loop-responses.responses c.respond_to_first.new.responses =
     rw c.in-Ended.is at c.in_ok-needed.ensures in
     (step-ended c.args.most c.args.snapshot.now c.args.bytes.now c.loop-responses.rest.now c.without_breaks-start.result.now
-    c.loop-responses.responses.items c.respond_to_first.new.responses.items c.without_breaks-start.ensures c.loop-responses.invariant.said step).0
+    c.loop-responses.responses c.respond_to_first.new.responses c.without_breaks-start.ensures c.loop-responses.invariant.said step).0
 
 pub returns-in-Ended-clause-rest : goal.returns-in-Ended-clause-rest
 returns-in-Ended-clause-rest c =
-    let step : StepIs c.args.most Ended c.args.snapshot.now c.without_breaks-start.result.now c.loop-responses.responses.items c.respond_to_first.new.responses.items =
+    let step : StepIs c.args.most Ended c.args.snapshot.now c.without_breaks-start.result.now c.loop-responses.responses c.respond_to_first.new.responses =
     rw c.in-Ended.is at c.in_ok-needed.ensures in
     (step-ended c.args.most c.args.snapshot.now c.args.bytes.now c.loop-responses.rest.now c.without_breaks-start.result.now
-    c.loop-responses.responses.items c.respond_to_first.new.responses.items c.without_breaks-start.ensures c.loop-responses.invariant.said step).1
+    c.loop-responses.responses c.respond_to_first.new.responses c.without_breaks-start.ensures c.loop-responses.invariant.said step).1
 
 pub split_at-requires : goal.split_at-requires
 split_at-requires c =
-    let step : StepIs c.args.most (Next c.in-Next.used) c.args.snapshot.now c.without_breaks-start.result.now c.loop-responses.responses.items c.respond_to_first.new.responses.items =
+    let step : StepIs c.args.most (Next c.in-Next.used) c.args.snapshot.now c.without_breaks-start.result.now c.loop-responses.responses c.respond_to_first.new.responses =
     rw c.in-Next.is at c.in_ok-needed.ensures in
     (step-next c.args.most c.args.snapshot.now c.args.bytes.now c.loop-responses.rest.now c.without_breaks-start.result.now
-    c.loop-responses.responses.items c.respond_to_first.new.responses.items c.without_breaks-start.ensures c.loop-responses.invariant.said c.in-Next.used step).1
+    c.loop-responses.responses c.respond_to_first.new.responses c.without_breaks-start.ensures c.loop-responses.invariant.said c.in-Next.used step).1
 
 pub loop-responses-smaller : goal.loop-responses-smaller
 loop-responses-smaller c =
-    let step : StepIs c.args.most (Next c.in-Next.used) c.args.snapshot.now c.without_breaks-start.result.now c.loop-responses.responses.items c.respond_to_first.new.responses.items =
+    let step : StepIs c.args.most (Next c.in-Next.used) c.args.snapshot.now c.without_breaks-start.result.now c.loop-responses.responses c.respond_to_first.new.responses =
     rw c.in-Next.is at c.in_ok-needed.ensures in
     let next = step-next c.args.most c.args.snapshot.now c.args.bytes.now c.loop-responses.rest.now c.without_breaks-start.result.now
-    c.loop-responses.responses.items c.respond_to_first.new.responses.items c.without_breaks-start.ensures c.loop-responses.invariant.said c.in-Next.used step in
+    c.loop-responses.responses c.respond_to_first.new.responses c.without_breaks-start.ensures c.loop-responses.invariant.said c.in-Next.used step in
     let fits = skip-fits c.loop-responses.rest.now in
     let size = ap length c.without_breaks-start.ensures in
     omega (arith, next.0, next.1, fits, size, c.split_at.ensures.back_len)
 
 pub loop-responses-preserved : goal.loop-responses-preserved
 loop-responses-preserved c =
-    let step : StepIs c.args.most (Next c.in-Next.used) c.args.snapshot.now c.without_breaks-start.result.now c.loop-responses.responses.items c.respond_to_first.new.responses.items =
+    let step : StepIs c.args.most (Next c.in-Next.used) c.args.snapshot.now c.without_breaks-start.result.now c.loop-responses.responses c.respond_to_first.new.responses =
     rw c.in-Next.is at c.in_ok-needed.ensures in
     let next = step-next c.args.most c.args.snapshot.now c.args.bytes.now c.loop-responses.rest.now c.without_breaks-start.result.now
-    c.loop-responses.responses.items c.respond_to_first.new.responses.items c.without_breaks-start.ensures c.loop-responses.invariant.said c.in-Next.used step in
+    c.loop-responses.responses c.respond_to_first.new.responses c.without_breaks-start.ensures c.loop-responses.invariant.said c.in-Next.used step in
     let tail = tail-skip c.loop-responses.rest.now c.args.bytes.now c.loop-responses.invariant.tail in
     let start_tail = rw (← c.without_breaks-start.ensures) at tail in
     record {
@@ -89,4 +89,4 @@ loop-responses-preserved c =
     }
 
 pub loop-responses-init : goal.loop-responses-init
-loop-responses-init c = record { said = ([], refl, λ p holds. c.new-responses.ensures.items); scanned = c.requires.scanned; tail = tail-whole c.args.bytes.now }
+loop-responses-init c = record { said = ([], refl, λ p holds. c.new-responses.ensures); scanned = c.requires.scanned; tail = tail-whole c.args.bytes.now }

@@ -8,7 +8,7 @@ use Rattle.osm_gate.proofs.requests.respond_to_all.Given as goal
 
 abbrev pub invariant-loop-responses : goal.invariant-loop-responses
 invariant-loop-responses l = record {
-  said : SoFar l.most l.snapshot l.bytes l.rest l.responses.items;
+  said : SoFar l.most l.snapshot l.bytes l.rest l.responses;
   scanned : head_length (take l.scanned (take HEAD_LIMIT (skip_breaks l.rest))) ≡ None;
   tail : IsTail l.rest l.bytes;
 }

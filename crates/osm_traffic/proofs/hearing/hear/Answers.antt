@@ -23,7 +23,7 @@ returns-clause-kept g c = λ log taken wanted d base deeds s. (
   _,
   moved c.args.most wanted d base _ _ _ _ _ _ _ taken refl
       (some_of (λ bytes. c.put-2.new.self ≡ insert c.args.outputs.now c.args.number c.answers.result) _ [] c.requires.idle c.put-2.ensures ∙ ap (insert c.args.outputs.now c.args.number) c.answers.ensures) refl
-      (hears_ok c.args.most wanted d base deeds log _ _ taken s c.args.number c.args.piece.now c.requires.idle c.requires.cut c.requires.single _ c.in-Ok.text.items c.requires.open c.in-Ok.ensures.responses (c.in-Ok.ensures.open c.requires.open)),
+      (hears_ok c.args.most wanted d base deeds log _ _ taken s c.args.number c.args.piece.now c.requires.idle c.requires.cut c.requires.single _ c.in-Ok.text c.requires.open c.in-Ok.ensures.responses (c.in-Ok.ensures.open c.requires.open)),
 )
 
 pub returns-clause-snapshot : goal.returns-clause-snapshot

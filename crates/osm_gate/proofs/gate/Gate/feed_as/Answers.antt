@@ -3,11 +3,11 @@ use Rattle.std.specs.Prelude.{◌⊎◌}
 use Rattle.osm_gate.specs.Connections.{Requests, Rest, requests_next}
 use Rattle.osm_gate.proofs.FeedLemmas.{next-open, still-waits, waits-requests_in, scanned-before}
 use Rattle.osm_gate.proofs.StepLemmas.{open-empty}
-use Rattle.osm_gate.proofs.gate.Gate.feed_within.Goals as goal
-use Rattle.osm_gate.proofs.gate.Gate.feed_within.Goals.{then-self-eq0, else-self-eq0}
+use Rattle.osm_gate.proofs.gate.Gate.feed_as.Goals as goal
+use Rattle.osm_gate.proofs.gate.Gate.feed_as.Goals.{then-self-eq0, else-self-eq0}
 
 pub invariant_of-self-then-len-self : goal.invariant_of-self-then-len-self
-invariant_of-self-then-len-self c =
+invariant_of-self-then-len-self g c =
     let items : c.extend_from_slice.new.self.items ≡ c.self.inside.rest.items ++ c.args.piece.now = search rules in
     let size : c.len.result ≡ length c.extend_from_slice.new.self.items = search rules in
     let whole = ap length items in
@@ -19,19 +19,18 @@ invariant_of-self-then-len-self c =
     }
 
 pub returns-then-len-self-clause-responses : goal.returns-then-len-self-clause-responses
-returns-then-len-self-clause-responses c =
+returns-then-len-self-clause-responses g c =
     let items : c.extend_from_slice.new.self.items ≡ c.self.inside.rest.items ++ c.args.piece.now = search rules in
     let size : c.len.result ≡ length c.extend_from_slice.new.self.items = search rules in
     let whole = ap length items in
     let short : length (c.self.inside.rest.items ++ c.args.piece.now) < c.self.inside.needed = omega (arith, size, whole, c.if-len-self.true) in
     let said = next-open c.self.inside.is_closed c.self.inside.rest.items c.args.piece.now c.if-self.false
     ∙ waits-requests_in c.self.inside.needed c.self.inside.rest.items c.args.piece.now c.self.invariant.is_open short in
-    let none : c.new-then-len-self.result.items ≡ [] = search rules in
     let nothing = ap (λ (r : Rest). (requests_next r c.args.piece.now).complete) (sym c.self.view_is) ∙ ap (λ (s : Requests). s.complete) said in
-    λ p holds. rw nothing none
+    λ p holds. rw nothing c.none-then-len-self.ensures
 
 pub returns-then-len-self-clause-rest : goal.returns-then-len-self-clause-rest
-returns-then-len-self-clause-rest c =
+returns-then-len-self-clause-rest g c =
     let items : c.extend_from_slice.new.self.items ≡ c.self.inside.rest.items ++ c.args.piece.now = search rules in
     let size : c.len.result ≡ length c.extend_from_slice.new.self.items = search rules in
     let whole = ap length items in
@@ -42,8 +41,8 @@ returns-then-len-self-clause-rest c =
     (λ i. record { is_closed = now_open i; bytes = items i })
     ∙ sym (ap (λ (r : Rest). (requests_next r c.args.piece.now).rest) (sym c.self.view_is) ∙ ap (λ (s : Requests). s.rest) said)
 
-pub respond_to_all-requires-clause-scanned : goal.respond_to_all-requires-clause-scanned
-respond_to_all-requires-clause-scanned c =
+pub respond_as-requires-clause-scanned : goal.respond_as-requires-clause-scanned
+respond_as-requires-clause-scanned g c =
     let items : c.as_slice-rest.result.now ≡ c.self.inside.rest.items ++ c.args.piece.now = search rules in
     let before : c.len-before.result ≡ length c.self.inside.rest.items = search rules in
     let from : ((c.self.inside.needed ≡ 0) × (c.if-self-eq0.scanned ≡ length c.self.inside.rest.items)) ⊎ (c.if-self-eq0.scanned ≡ 0) =
@@ -54,4 +53,4 @@ respond_to_all-requires-clause-scanned c =
     rw items (scanned-before c.self.inside.needed c.if-self-eq0.scanned c.self.inside.rest.items c.args.piece.now c.self.invariant.is_open from)
 
 pub invariant_of-self-in-None : goal.invariant_of-self-in-None
-invariant_of-self-in-None c = record { closed = λ e. c.clear.ensures.items; is_open = open-empty c.clear.new.self.items c.clear.ensures.items; routes = c.self.invariant.routes }
+invariant_of-self-in-None g c = record { closed = λ e. c.clear.ensures.items; is_open = open-empty c.clear.new.self.items c.clear.ensures.items; routes = c.self.invariant.routes }

@@ -1,0 +1,3 @@
+mod PackLemmas
+mod PublishedNodes
+mod QueryLemmas

@@ -1,0 +1,7 @@
+//! The commands over four objects and their pack.
+
+mod failing_pack;
+mod four_objects;
+mod packing;
+mod placing_output;
+mod querying;
