@@ -9,14 +9,7 @@ set -eu
 . "$(dirname "$0")/program.sh"
 . "$(dirname "$0")/extract.sh"
 
-build_program answer_speed 'byte_io: memchr thiserror
-osm_model: byte_io arrayvec itoa thiserror
-opl_codec: byte_io osm_model itoa memchr simdutf8 thiserror
-ql_syntax: byte_io osm_model opl_codec simdutf8 smallvec thiserror
-ref_sets: osm_model
-ql_meaning: osm_model opl_codec ql_syntax ref_sets
-ql_plain: osm_model opl_codec ql_syntax ref_sets ql_meaning
-answer_speed: opl_codec ql_plain ql_syntax osm_model anyhow' byte_io osm_model opl_codec ql_syntax ref_sets ql_meaning ql_plain
+build_program answer_speed 'opl_codec ql_plain ql_syntax osm_model anyhow'
 
 echo "$(rt version)"
 tell_machine

@@ -11,10 +11,7 @@ share=${1:-1}
 . "$(dirname "$0")/extract.sh"
 extract "$share"
 
-crates='byte_io osm_model opl_codec tree_node tree_build tree_walk osm_keys osm_index'
-# shellcheck disable=SC2086
-build_program apply_speed "$(grep -E "^(${crates// /|}):" "$top/crates.txt")
-apply_speed: opl_codec osm_index anyhow" $crates
+build_program apply_speed 'opl_codec osm_index anyhow'
 
 echo "$(rt version)"
 tell_machine

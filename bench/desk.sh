@@ -12,10 +12,7 @@ share=${1:-1}
 . "$(dirname "$0")/extract.sh"
 extract "$share"
 
-crates='byte_io osm_model opl_codec ql_syntax ref_sets ql_meaning ql_plan tree_node tree_build tree_walk osm_keys osm_index ql_eval osm_prove http_messages osm_gate osm_desk'
-# shellcheck disable=SC2086
-build_program desk_speed "$(grep -E "^(${crates// /|}):" "$top/crates.txt")
-desk_speed: opl_codec osm_index osm_gate osm_desk anyhow" $crates
+build_program desk_speed 'opl_codec osm_index osm_gate osm_desk anyhow'
 
 echo "$(rt version)"
 tell_machine

@@ -11,10 +11,7 @@ share=${1:-1}
 . "$(dirname "$0")/extract.sh"
 extract "$share" --marked
 
-crates='byte_io osm_model opl_codec ql_syntax ref_sets ql_meaning ql_plan tree_node tree_build tree_walk osm_keys osm_index ql_eval osm_prove'
-# shellcheck disable=SC2086
-build_program evaluate_speed "$(grep -E "^(${crates// /|}):" "$top/crates.txt")
-evaluate_speed: opl_codec osm_index osm_prove ql_eval ql_syntax tree_node anyhow" $crates
+build_program evaluate_speed 'opl_codec osm_index osm_prove ql_eval ql_syntax tree_node anyhow'
 
 echo "$(rt version); SQLite $(python3 -c 'import sqlite3; print(sqlite3.sqlite_version)')"
 tell_machine

@@ -8,11 +8,7 @@ set -eu
 . "$(dirname "$0")/program.sh"
 . "$(dirname "$0")/extract.sh"
 
-build_program forms_speed 'byte_io: memchr thiserror
-osm_model: byte_io arrayvec itoa thiserror
-opl_codec: byte_io osm_model itoa memchr simdutf8 thiserror
-osm_forms: osm_model opl_codec itoa json
-forms_speed: opl_codec osm_forms osm_model anyhow' byte_io osm_model opl_codec osm_forms
+build_program forms_speed 'opl_codec osm_forms osm_model anyhow'
 
 echo "$(rt version)"
 tell_machine

@@ -61,15 +61,7 @@ side_by_side() {
 
 # The first call builds; help has the status 2.
 built=$("$top/osm_mirror" --help 2>&1) || [ $? -eq 2 ] || { echo "$built" >&2; exit 1; }
-build_program publish_trees 'byte_io: memchr thiserror
-osm_model: byte_io arrayvec itoa thiserror
-opl_codec: byte_io osm_model itoa memchr simdutf8 thiserror
-tree_node: sha2 thiserror
-tree_build: tree_node thiserror
-tree_walk: tree_node thiserror
-osm_keys: byte_io osm_model opl_codec tree_node tree_walk simdutf8
-osm_index: osm_model opl_codec tree_node tree_build tree_walk osm_keys thiserror
-publish_trees: osm_index opl_codec tree_node anyhow' byte_io osm_model opl_codec tree_node tree_build tree_walk osm_keys osm_index
+build_program publish_trees 'osm_index opl_codec tree_node anyhow'
 
 echo "$(rt version); $(osmium --version | head -n 1)"
 tell_machine

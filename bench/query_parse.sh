@@ -7,11 +7,7 @@
 set -eu
 runs=${1:-3}
 . "$(dirname "$0")/program.sh"
-build_program query_speed 'byte_io: memchr thiserror
-osm_model: byte_io arrayvec itoa thiserror
-opl_codec: byte_io osm_model itoa memchr simdutf8 thiserror
-ql_syntax: byte_io osm_model opl_codec simdutf8 smallvec thiserror
-query_speed: ql_syntax anyhow' byte_io osm_model opl_codec ql_syntax
+build_program query_speed 'ql_syntax anyhow'
 for _ in $(seq "$runs"); do
     out/query_speed
 done

@@ -20,10 +20,7 @@ side_by_side() {
         "osmium fileinfo -e" "osmium fileinfo --no-progress -e -F opl -"
 }
 
-build_program read_speed 'byte_io: memchr thiserror
-osm_model: byte_io arrayvec itoa thiserror
-opl_codec: byte_io osm_model itoa memchr simdutf8 thiserror
-read_speed: opl_codec' byte_io osm_model opl_codec
+build_program read_speed 'opl_codec'
 
 echo "$(rt version); $(osmium --version | head -n 1)"
 tell_machine

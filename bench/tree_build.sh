@@ -8,9 +8,7 @@ set -eu
 runs=${1:-3}
 . "$(dirname "$0")/program.sh"
 invariants build_speed has_tree has_tree
-build_program build_speed 'tree_node: sha2 thiserror
-tree_build: tree_node thiserror
-build_speed: tree_build tree_node sha2 anyhow' tree_node tree_build
+build_program build_speed 'tree_build tree_node sha2 anyhow'
 python3 - "$runs" <<'END'
 import os
 import subprocess

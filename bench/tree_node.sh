@@ -4,8 +4,7 @@
 # repository (WORK, or a new one), so that the gate doesn't prove it.
 set -eu
 . "$(dirname "$0")/program.sh"
-build_program tree_speed 'tree_node: sha2 thiserror
-tree_speed: tree_node sha2 anyhow' tree_node
+build_program tree_speed 'tree_node sha2 anyhow'
 out/tree_speed
 # The same bytes by the system's own program.
 head -c 268435456 /dev/zero | tr '\0' a > "$work/message"

@@ -8,10 +8,7 @@ set -eu
 runs=${1:-3}
 . "$(dirname "$0")/program.sh"
 invariants walk_speed has_tree has_tree
-build_program walk_speed 'tree_node: sha2 thiserror
-tree_build: tree_node thiserror
-tree_walk: tree_node thiserror
-walk_speed: tree_walk tree_build tree_node anyhow' tree_node tree_build tree_walk
+build_program walk_speed 'tree_walk tree_build tree_node anyhow'
 for _ in $(seq "$runs"); do
     out/walk_speed 1000000
 done
