@@ -25,6 +25,7 @@ mod write_fault;
 mod writing;
 
 pub use fault::PackFault;
+pub use place::Place;
 pub use read_at::{ReadAt, ReadFault};
 pub use source::PackSource;
 pub use write_fault::WriteFault;
