@@ -4,21 +4,27 @@
 //! bytes at an offset ([`ReadAt`]). Nothing in a pack is trusted: the shelf digests each node that it takes.
 #![tactic(auto)]
 
+mod ahead;
+mod announced;
 mod children;
 mod fault;
 mod file;
 mod gather;
 mod gathered;
 mod header;
+mod hint;
 mod layout;
 mod learn;
+mod led;
 mod place;
 mod read_at;
 mod record;
 mod records;
 mod role;
+mod round;
 mod row;
 mod source;
+mod step;
 #[cfg(test)]
 mod tests;
 mod write_fault;

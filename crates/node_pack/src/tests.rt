@@ -1,5 +1,6 @@
 //! A small pack, as it is, with each bit turned, cut, and on devices that fail.
 
+mod ahead;
 mod writing;
 
 use crate::{PackFault, PackSource, Place, ReadAt, ReadFault};
