@@ -13,6 +13,7 @@ mod gather;
 mod gathered;
 mod header;
 mod hint;
+mod laws;
 mod layout;
 mod learn;
 mod led;
@@ -31,6 +32,7 @@ mod write_fault;
 mod writing;
 
 pub use fault::PackFault;
+pub use laws::hint_law;
 pub use place::Place;
 pub use read_at::{ReadAt, ReadFault};
 pub use source::PackSource;
