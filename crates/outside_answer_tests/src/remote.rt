@@ -134,12 +134,13 @@ fn answer<F: ReadAt + Drop>(
     Ok(told.map(|_| ()))
 }
 
-/// The pack of the four objects has one node a tree, so that each tree that a query needs is a round. The header and the
-/// manifest are read before anything is announced.
+/// The pack of the four objects has one node a tree, so that each tree that a query needs is a round: that of the objects, for
+/// `<` that of the backs too, and for a box whose ids are asked for that of the cells alone, which has the places. The header and
+/// the manifest are read before anything is announced.
 #[test]
 fn takes_a_round_a_tree(rt: HostRuntime) -> Result<(), Fail> {
     let alloc = rt.alloc();
-    for ((text, expected), rounds) in ANSWERS.iter().zip([1, 1, 2, 1, 2, 2, 1]) {
+    for ((text, expected), rounds) in ANSWERS.iter().zip([1, 1, 2, 1, 1, 1, 1]) {
         let seen = Seen::new();
         let mut into = Vec::new(alloc);
         let remote = Remote::new(alloc, PACK, &seen);
@@ -249,22 +250,14 @@ fn answers_from_afar_within_memory(rt: HostRuntime) -> Result<(), Fail> {
     let (text, expected) = ANSWERS[2];
     let seen = Seen::new();
     let mut into = Vec::new(alloc);
-    let first = answer(
-        alloc,
-        Remote::new(alloc, PACK, &seen),
-        &ROOT,
-        text,
-        &mut into,
-    );
-    if !matches!(first, Ok(Ok(()))) {
-        if let Ok(Err(fault)) = first {
-            let is_memory = fault == AnswerFault::Source(Refused::Memory)
-                || fault == AnswerFault::Evaluation(EvalFault::Memory);
-            assert!(rt; is_memory, "{fault}");
-        }
-        into.clear();
-        let remote = Remote::new(alloc, PACK, &seen);
-        assert!(rt; answer(alloc, remote, &ROOT, text, &mut into)?.is_ok());
+    let remote = Remote::new(alloc, PACK, &seen);
+    if let Err(fault) = answer(alloc, remote, &ROOT, text, &mut into)? {
+        let is_memory = fault == AnswerFault::Source(Refused::Memory)
+            || fault == AnswerFault::Evaluation(EvalFault::Memory);
+        assert!(rt; is_memory, "{fault}");
+        assert_eq!(rt; into.len(), 0);
+        let again = Remote::new(alloc, PACK, &seen);
+        assert!(rt; answer(alloc, again, &ROOT, text, &mut into)?.is_ok());
     }
     assert_eq!(rt; into.as_slice(), expected.as_bytes());
     Ok(())
