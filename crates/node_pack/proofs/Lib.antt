@@ -6,6 +6,8 @@ mod PackLemmas
 mod PlaceMaps
 mod RecordLemmas
 mod RoleLemmas
+mod RoundLemmas
+mod StepLemmas
 mod TableLemmas
 mod WholeLemmas
 mod WriteLemmas

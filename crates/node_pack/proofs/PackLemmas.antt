@@ -221,6 +221,11 @@ pub on_ok : {A E : Type 0} {P Q : Type 0} (r : Result A E) → OnOk r P → (P �
 on_ok (Ok a) p f = f p
 on_ok (Err e) p f = tt
 
+-- the same of what is so under a premise
+pub on_ok_where : {A E : Type 0} {W P Q : Type 0} (r : Result A E) → (W → OnOk r P) → ((W → P) → Q) → OnOk r Q
+on_ok_where (Ok a) p f = f p
+on_ok_where (Err e) p f = tt
+
 -- what is known stays true after a record was read, whether its node was too long to learn from or not
 pub trues_after : {S : Type 0} (nodes : List Kept) (key : List ℕ) (most : ℕ) (bytes : List ℕ) (m n : HashMap Digest Place S) → ReadKept nodes key most bytes → AreTrue (place_in nodes) m
     → (most < length (node_in bytes) → n ≡ m)

@@ -1,5 +1,6 @@
 pub mod Faults
 pub mod Headers
+pub mod Hints
 pub mod Known
 pub mod Packs
 pub mod Places

@@ -1,5 +1,6 @@
 //! Packs in files.
 
+use crate::place::Place;
 use crate::read_at::{ReadAt, ReadFault};
 use std::fs::File;
 use std::io::{Seek, SeekFrom};
@@ -26,4 +27,12 @@ impl ReadAt for File {
             Err(_) => Err(ReadFault::Device),
         }
     }
+
+    /// The system reads it from a device of its own.
+    fn is_remote(&self) -> bool {
+        false
+    }
+
+    /// It takes no hint.
+    fn expect(&mut self, _places: &[Place]) {}
 }

@@ -4,27 +4,36 @@
 //! bytes at an offset ([`ReadAt`]). Nothing in a pack is trusted: the shelf digests each node that it takes.
 #![tactic(auto)]
 
+mod ahead;
+mod announced;
 mod children;
 mod fault;
 mod file;
 mod gather;
 mod gathered;
 mod header;
+mod hint;
+mod laws;
 mod layout;
 mod learn;
+mod led;
 mod place;
 mod read_at;
 mod record;
 mod records;
 mod role;
+mod round;
 mod row;
 mod source;
+mod step;
 #[cfg(test)]
 mod tests;
 mod write_fault;
 mod writing;
 
 pub use fault::PackFault;
+pub use laws::hint_law;
+pub use place::Place;
 pub use read_at::{ReadAt, ReadFault};
 pub use source::PackSource;
 pub use write_fault::WriteFault;

@@ -1,7 +1,8 @@
 //! Where the bytes of a pack come from.
 
-ghost use Rattle.std.specs.Prelude.{◌≡◌, ◌≤◌, ◌<◌, ◌+◌, ◌++◌, ℕ, Err, IfErr, IfOk, List, OnOk, drop, length, take};
+ghost use Rattle.std.specs.Prelude.{◌≡◌, ◌≤◌, ◌<◌, ◌+◌, ◌++◌, ℕ, Err, IfErr, IfOk, List, OnOk, drop, false, length, take};
 
+use crate::place::Place;
 use std::alloc::{AllocError, AllocFailed};
 use thiserror::Error;
 
@@ -51,6 +52,13 @@ pub trait ReadAt {
         ensures read { (bytes : List ℕ) → reads self.old bytes → OnOk result
             (into.new.items ≡ into.old.items ++ take len (drop offset bytes)) }
         ensures stays { (bytes : List ℕ) → reads self.old bytes → reads self.new bytes };
+
+    /// Whether each read takes a round trip, so that it pays to say beforehand what will be read.
+    fn is_remote(&self) -> bool;
+
+    /// A hint: the bytes at these places will be read. Whether they come doesn't show before they are.
+    fn expect(&mut self, places: &[Place])
+        ensures stays { (bytes : List ℕ) → reads self.old bytes → reads self.new bytes };
 }
 
 impl ReadAt for &[u8] {
@@ -74,6 +82,18 @@ impl ReadAt for &[u8] {
     {
         append_at(self, offset, len, into)
     }
+
+    /// It is at hand.
+    fn is_remote(&self) -> bool
+        ensures { result ≡ false }
+    {
+        false
+    }
+
+    /// It takes no hint.
+    fn expect(&mut self, _places: &[Place])
+        ensures stays { (bytes : List ℕ) → self.old.now ≡ bytes → self.new.now ≡ bytes }
+    {}
 }
 
 /// Appends this many of the bytes, from an offset on.

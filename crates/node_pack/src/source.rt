@@ -6,6 +6,7 @@ ghost use Rattle.node_pack.specs.Headers.{header_at};
 ghost use Rattle.node_pack.specs.Packs.{IsPack, Kept, node_in, pack, place_in};
 ghost use Rattle.node_pack.specs.declared.header.Header.{Header};
 
+use crate::ahead::Ahead;
 use crate::fault::PackFault;
 use crate::header::{HEADER_LEN, read_header};
 use crate::learn::{learn, remember};
@@ -20,20 +21,28 @@ use tree_node::Digest;
 /// Gives the nodes of a pack by their digests: first that of the root, and of each node that it gave the children. It keeps
 /// their places, and reads a node whenever it is asked for it, in one read of its record.
 ///
+/// Over a remote file it takes hints. When a node is next asked for, it goes down the trees for all hints at once, and says of
+/// each level what it will read there, so that a round trip brings a level and not a node. This changes nothing that is given:
+/// each node is read anew when it is asked for.
+///
 /// Nothing in the file is trusted. Whatever it has, a call ends, and takes no more memory than the file has bytes, or than
-/// the node may have that was asked for.
+/// the node may have that was asked for. For the hints before a call it keeps at most 1 MiB, reads at most 64 MiB of nodes
+/// that aren't leaves, and expects at most some 65,600 records a level; how many of the bytes that it expects are brought is
+/// the device's affair.
 #[derive(Drop)]
 pub struct PackSource<F: ReadAt + Drop> {
-    file: F,
+    pub(crate) file: F,
     root: Digest,
-    size: u64,
-    places: HashMap<Digest, Place>,
-    buffer: Vec<u8>,
+    pub(crate) size: u64,
+    pub(crate) places: HashMap<Digest, Place>,
+    pub(crate) buffer: Vec<u8>,
     children: Vec<Digest>,
+    pub(crate) ahead: Ahead,
 }
 
 impl<F: ReadAt + Drop> PackSource<F> {
     ghost use Rattle.node_pack.specs.Sources.{GivesKept, IsOpenFault, IsOver, Knows, last_record, root_in};
+    ghost use Rattle.node_pack.specs.internal.Reading.{IsBrought};
 
     /// Reads the header of a pack. What the source needs later comes from `alloc` too.
     pub fn open(alloc: Global, mut file: F) -> Result<PackSource<F>, PackFault>
@@ -60,6 +69,7 @@ impl<F: ReadAt + Drop> PackSource<F> {
             places,
             buffer,
             children: Vec::new(alloc),
+            ahead: Ahead::new(alloc),
         })
     }
 
@@ -83,14 +93,29 @@ impl<F: ReadAt + Drop> PackSource<F> {
             → place_in nodes key ≡ Some place
             → OnOk result (GivesKept nodes key at_most into.old.items into.new.items (Knows self.new)) }
     {
+        self.bring(place, at_most)?;
+        append_node(self.buffer.as_slice(), at_most, into)
+    }
+
+    /// Reads the record at this place, as far as it can be that of a node of at most so many bytes, and remembers where the
+    /// children of such a node stand.
+    pub(crate) fn bring(&mut self, place: Place, at_most: usize) -> Result<(), ReadFault>
+        ensures announced { self.new.ahead.announced ≡ self.old.ahead.announced }
+        ensures root { root_in self.new ≡ root_in self.old }
+        ensures keeps { (key : List ℕ) → Knows self.old key → Knows self.new key }
+        ensures over { (root key : List ℕ) (nodes : List Kept) → IsOver F.reads self.old root nodes
+            → place_in nodes key ≡ Some place → IsOver F.reads self.new root nodes }
+        ensures brought { (root key : List ℕ) (nodes : List Kept) → IsOver F.reads self.old root nodes
+            → place_in nodes key ≡ Some place
+            → OnOk result (IsBrought nodes key at_most (last_record self.new) (Knows self.new)) }
+    {
         read_record(&mut self.file, self.size, place, at_most, &mut self.buffer)?;
         learn(
             self.buffer.as_slice(),
             at_most,
             &mut self.children,
             &mut self.places,
-        )?;
-        append_node(self.buffer.as_slice(), at_most, into)
+        )
     }
 }
 
@@ -138,17 +163,22 @@ impl<F: ReadAt + Drop> NodeSource for PackSource<F> {
             return Err(SourceFault::Absent);
         };
         let place = *place;
+        self.bring_announced();
         match self.give(place, at_most, into) {
             Ok(()) => Ok(()),
             Err(fault) => Err(source_fault(fault)),
         }
     }
 
-    /// It takes no hint.
-    fn announce(&mut self, _top: &Digest, _lo: &[u8], _hi: &[u8])
+    /// It is kept where the file is remote, and dropped where there is no room or no memory for it.
+    fn announce(&mut self, top: &Digest, lo: &[u8], hi: &[u8])
         ensures root { root_in self.new ≡ root_in self.old }
         ensures keeps { (key : List ℕ) → Knows self.old key → Knows self.new key }
         ensures over { (root : List ℕ) (nodes : List Kept) → IsOver F.reads self.old root nodes
             → IsOver F.reads self.new root nodes }
-    {}
+    {
+        if self.file.is_remote() {
+            self.ahead.hear(top, lo, hi);
+        }
+    }
 }

@@ -1,8 +1,9 @@
 //! A small pack, as it is, with each bit turned, cut, and on devices that fail.
 
+mod ahead;
 mod writing;
 
-use crate::{PackFault, PackSource, ReadAt, ReadFault};
+use crate::{PackFault, PackSource, Place, ReadAt, ReadFault};
 use bumpalo::Bump;
 use outside_shelf::{NodeSource, OutsideShelf, Refused, SourceFault};
 use std::alloc::Global;
@@ -256,6 +257,12 @@ impl ReadAt for Failing {
         let mut pack = PACK;
         pack.read_at(offset, len, into)
     }
+
+    fn is_remote(&self) -> bool {
+        false
+    }
+
+    fn expect(&mut self, _places: &[Place]) {}
 }
 
 /// Where the device fails it is told so, and the next time the node is given.

@@ -1,6 +1,6 @@
 //! The file of a pack.
 
-use node_pack::{ReadAt, ReadFault};
+use node_pack::{Place, ReadAt, ReadFault};
 use std::fs::File;
 
 /// A pack's file, which is opened when it is first asked for its size, so that a query that doesn't read opens none. A file
@@ -45,4 +45,12 @@ impl ReadAt for PackFile<'_> {
             None => Err(ReadFault::Device),
         }
     }
+
+    /// The system reads it from a device of its own.
+    fn is_remote(&self) -> bool {
+        false
+    }
+
+    /// It takes no hint.
+    fn expect(&mut self, _places: &[Place]) {}
 }

@@ -6,4 +6,6 @@
 #[cfg(test)]
 mod packs;
 #[cfg(test)]
+mod remote;
+#[cfg(test)]
 mod tests;

@@ -12,7 +12,7 @@ use std::test::Fail;
 use tree_node::{Digest, Shelf, Stock};
 
 /// A stock with the nodes of the pack; none where memory is refused.
-fn small_stock(alloc: Global) -> Option<Stock> {
+pub(super) fn small_stock(alloc: Global) -> Option<Stock> {
     let mut stock = Stock::new(alloc);
     for place in &NODES {
         stock.put(place.2.to_vec(alloc).ok()?).ok()?;
@@ -138,7 +138,11 @@ fn tells_a_missing_node(rt: HostRuntime) -> Result<(), Fail> {
 }
 
 /// Puts a manifest of the first edition with these tops, and gives its digest.
-fn put_manifest(alloc: Global, stock: &mut Stock, tops: [Digest; 4]) -> Result<Digest, Fail> {
+pub(super) fn put_manifest(
+    alloc: Global,
+    stock: &mut Stock,
+    tops: [Digest; 4],
+) -> Result<Digest, Fail> {
     let manifest = Manifest {
         edition: Edition::One,
         tops,

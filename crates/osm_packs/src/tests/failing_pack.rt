@@ -1,7 +1,7 @@
 //! A pack on a device that fails.
 
 use super::four_objects::PACK;
-use node_pack::{ReadAt, ReadFault};
+use node_pack::{Place, ReadAt, ReadFault};
 
 /// The pack of the four objects on a device that fails at one of its calls.
 #[derive(Drop)]
@@ -45,4 +45,10 @@ impl ReadAt for FailingPack {
         }
         self.bytes.read_at(offset, len, into)
     }
+
+    fn is_remote(&self) -> bool {
+        false
+    }
+
+    fn expect(&mut self, _places: &[Place]) {}
 }

@@ -1,36 +1,16 @@
-use Rattle.std.proofs.Common.{List, ℕ, ◌+◌, ◌++◌, take, ap, sym, ◌∙◌}
-use Rattle.node_pack.specs.Packs.{node_in, pack}
-use Rattle.node_pack.proofs.PackLemmas.{on_ok, read_kept, trues_after}
+use Rattle.std.proofs.Common.{List, ℕ, ◌+◌, ◌++◌, take, ap, ◌∙◌}
+use Rattle.node_pack.specs.Packs.{node_in}
+use Rattle.node_pack.proofs.PackLemmas.{on_ok}
 use Rattle.node_pack.proofs.source.PackSource.give.Goals as goal
-
-pub returns-in_err-learn-clause-over : goal.returns-in_err-learn-clause-over
-returns-in_err-learn-clause-over g c = λ root key nodes over is.
-    let read = read_kept root nodes key c.args.place c.args.at_most c.as_slice.result.now over.is_pack is (c.as_slice.ensures.value ∙ c.in_ok-read_record.ensures.read (pack root nodes) over.is_read) in
-    record {
-      is_read = c.read_record.ensures.stays (pack root nodes) over.is_read;
-      is_pack = over.is_pack;
-      size = over.size;
-      trues = trues_after nodes key c.args.at_most c.as_slice.result.now c.args.self.now.places c.learn.new.places read over.trues c.learn.ensures.long c.learn.ensures.trues;
-    }
-
-pub returns-clause-over : goal.returns-clause-over
-returns-clause-over g c = λ root key nodes over is.
-    let read = read_kept root nodes key c.args.place c.args.at_most c.as_slice.result.now over.is_pack is (c.as_slice.ensures.value ∙ c.in_ok-read_record.ensures.read (pack root nodes) over.is_read) in
-    record {
-      is_read = c.read_record.ensures.stays (pack root nodes) over.is_read;
-      is_pack = over.is_pack;
-      size = over.size;
-      trues = trues_after nodes key c.args.at_most c.as_slice.result.now c.args.self.now.places c.learn.new.places read over.trues c.learn.ensures.long c.learn.ensures.trues;
-    }
 
 pub returns-clause-given : goal.returns-clause-given
 returns-clause-given g c = λ root key nodes over is.
-    let first = read_kept root nodes key c.args.place c.args.at_most c.as_slice.result.now over.is_pack is (c.as_slice.ensures.value ∙ c.in_ok-read_record.ensures.read (pack root nodes) over.is_read) in
+    let brought = c.in_ok-bring.ensures.brought root key nodes over is in
     on_ok c.append_node.result c.append_node.ensures.appended
     (λ appended. record {
-      kept = first.kept;
-      is_in = first.is_in;
-      has_digest = first.has_digest;
-      appended = appended ∙ ap (λ (l : List ℕ). c.args.into.now.items ++ take (c.args.at_most + 1) l) (ap node_in (c.as_slice-2.ensures.value ∙ sym c.as_slice.ensures.value)) ∙ ap (λ (l : List ℕ). c.args.into.now.items ++ l) first.front;
-      learned = λ within. c.in_ok-learn.ensures.learned _ first.kept over.trues (first.whole within) first.children first.placed first.short within;
+      kept = brought.kept;
+      is_in = brought.is_in;
+      has_digest = brought.has_digest;
+      appended = appended ∙ ap (λ (l : List ℕ). c.args.into.now.items ++ take (c.args.at_most + 1) (node_in l)) c.as_slice.ensures.value ∙ ap (λ (l : List ℕ). c.args.into.now.items ++ l) brought.front;
+      learned = brought.learned;
     })

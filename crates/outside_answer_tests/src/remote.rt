@@ -1,0 +1,264 @@
+//! Queries answered from packs far away, and how many round trips they take.
+
+use crate::packs::{ANSWERS, PACK, ROOT};
+use bumpalo::Bump;
+use node_pack::{PackSource, Place, ReadAt, ReadFault, write_pack};
+use opl_codec::read_set;
+use osm_forms::Form;
+use osm_index::{Edition, Snapshot};
+use outside_answer::{AnswerFault, Limits, answer_from};
+use outside_shelf::Refused;
+use ql_eval::EvalFault;
+use ql_syntax::parse;
+use std::alloc::Global;
+use std::cell::Cell;
+use std::test::Fail;
+use tree_node::{Digest, Shelf};
+
+const NO_LIMITS: Limits = Limits {
+    bytes: None,
+    work: None,
+};
+
+/// What a device has seen.
+#[derive(Drop)]
+struct Seen {
+    /// How often it was told what to expect.
+    rounds: Cell<u32>,
+    /// How many places it was told a second time.
+    again: Cell<u32>,
+    /// How many reads it wasn't told of before.
+    sudden: Cell<u32>,
+}
+
+impl Seen {
+    fn new() -> Seen {
+        Seen {
+            rounds: Cell::new(0),
+            again: Cell::new(0),
+            sudden: Cell::new(0),
+        }
+    }
+}
+
+/// One more.
+fn count(cell: &Cell<u32>) {
+    cell.set(cell.get().saturating_add(1));
+}
+
+/// Bytes far away. One read after so many may fail.
+#[derive(Drop)]
+struct Remote<'a> {
+    bytes: &'a [u8],
+    expected: Vec<Place>,
+    seen: &'a Seen,
+    before: Option<u32>,
+}
+
+impl<'a> Remote<'a> {
+    fn new(alloc: Global, bytes: &'a [u8], seen: &'a Seen) -> Remote<'a> {
+        Remote {
+            bytes,
+            expected: Vec::new(alloc),
+            seen,
+            before: None,
+        }
+    }
+}
+
+impl<'a> ReadAt for Remote<'a> {
+    ghost reads = { λ device bytes. ⊥ };
+
+    fn size(&mut self) -> Result<u64, ReadFault> {
+        Ok(self.bytes.len() as u64)
+    }
+
+    fn read_at(&mut self, offset: u64, len: usize, into: &mut Vec<u8>) -> Result<(), ReadFault> {
+        match self.before {
+            Some(0) => {
+                self.before = None;
+                return Err(ReadFault::Device);
+            }
+            Some(more) => self.before = Some(more.saturating_sub(1)),
+            None => {}
+        }
+        let is_expected = self
+            .expected
+            .iter()
+            .any(|place| place.at == offset && len <= place.len as usize);
+        if !is_expected {
+            count(&self.seen.sudden);
+        }
+        let mut bytes = self.bytes;
+        bytes.read_at(offset, len, into)
+    }
+
+    fn is_remote(&self) -> bool {
+        true
+    }
+
+    fn expect(&mut self, places: &[Place]) {
+        count(&self.seen.rounds);
+        for place in places {
+            if self.expected.contains(place) {
+                count(&self.seen.again);
+            }
+            if self.expected.push(*place).is_err() {
+                return;
+            }
+        }
+    }
+}
+
+/// Writes the answer to a query over a pack.
+fn answer<F: ReadAt + Drop>(
+    alloc: Global,
+    file: F,
+    root: &Digest,
+    text: &str,
+    into: &mut Vec<u8>,
+) -> Result<Result<(), AnswerFault>, Fail> {
+    let arena = Bump::new(alloc);
+    let query = parse(alloc, text.as_bytes())?;
+    let source = PackSource::open(alloc, file)?;
+    let told = answer_from(
+        alloc,
+        &arena,
+        source,
+        &query,
+        root,
+        Form::Opl,
+        NO_LIMITS,
+        into,
+    );
+    Ok(told.map(|_| ()))
+}
+
+/// The pack of the four objects has one node a tree, so that each tree that a query needs is a round: that of the objects, for
+/// `<` that of the backs too, and for a box whose ids are asked for that of the cells alone, which has the places. The header and
+/// the manifest are read before anything is announced.
+#[test]
+fn takes_a_round_a_tree(rt: HostRuntime) -> Result<(), Fail> {
+    let alloc = rt.alloc();
+    for ((text, expected), rounds) in ANSWERS.iter().zip([1, 1, 2, 1, 1, 1, 1]) {
+        let seen = Seen::new();
+        let mut into = Vec::new(alloc);
+        let remote = Remote::new(alloc, PACK, &seen);
+        assert!(rt;
+            answer(alloc, remote, &ROOT, text, &mut into)?.is_ok(),
+            "{text}"
+        );
+        assert_eq!(rt; into.as_slice(), expected.as_bytes(), "{text}");
+        assert_eq!(rt; seen.rounds.get(), rounds, "{text}");
+        assert_eq!(rt; seen.sudden.get(), 2, "{text}");
+        assert_eq!(rt; seen.again.get(), 0, "{text}");
+    }
+    Ok(())
+}
+
+/// A text of 3,000 nodes, with places and values from a seed.
+fn many_nodes(alloc: Global) -> Result<Vec<u8>, Fail> {
+    let mut text = Vec::new(alloc);
+    let mut seed = 20_261_128_u32;
+    for id in 1..3001 {
+        seed = seed.wrapping_mul(1_664_525).wrapping_add(1_013_904_223);
+        let value = (seed >> 20) % 50;
+        let x = (seed >> 16) % 180;
+        let y = (seed >> 8) % 90;
+        let line = format!(in alloc; "n{id} Tk={value} x{x} y{y}\n")?;
+        text.extend_from_slice(line.as_bytes())?;
+    }
+    Ok(text)
+}
+
+/// How many levels the tree with this top has: the second byte of a node is its level.
+fn levels(alloc: Global, snapshot: &Snapshot, top: &Digest) -> Result<u32, Fail> {
+    let mut shelf = snapshot.stock().shelf(alloc);
+    let node = shelf.fetch(top)?;
+    match node.get(1) {
+        Some(level) => Ok(u32::from(*level).saturating_add(1)),
+        None => Ok(0),
+    }
+}
+
+/// From the pack of many objects far away come the answers of the pack at hand, with a round for each level of the trees that a
+/// query needs.
+#[test]
+fn takes_a_round_a_level(rt: HostRuntime) -> Result<(), Fail> {
+    let alloc = rt.alloc();
+    let text = many_nodes(alloc)?;
+    let set = read_set(alloc, &mut text.as_slice())?;
+    let snapshot = Snapshot::build(alloc, set, Edition::Two { sequence: 7 })?;
+    let root = *snapshot.root();
+    let mut pack = Vec::new(alloc);
+    let mut shelf = snapshot.stock().shelf(alloc);
+    write_pack(alloc, &mut shelf, &root, &mut pack)?;
+    let [objects, tags, cells, _] = snapshot.manifest().tops;
+    let objects = levels(alloc, &snapshot, &objects)?;
+    let tags = levels(alloc, &snapshot, &tags)?;
+    let cells = levels(alloc, &snapshot, &cells)?;
+    assert!(rt; objects > 2);
+    for (text, rounds) in [
+        ("node(1500);out;", objects),
+        ("node(4000);out;", 1),
+        ("node[k=7];out;", tags.saturating_add(objects)),
+        ("node(10,20,30,40);out;", cells.saturating_add(objects)),
+    ] {
+        let seen = Seen::new();
+        let mut far = Vec::new(alloc);
+        let mut near = Vec::new(alloc);
+        let remote = Remote::new(alloc, pack.as_slice(), &seen);
+        assert!(rt;
+            answer(alloc, remote, &root, text, &mut far)?.is_ok(),
+            "{text}"
+        );
+        assert!(rt;
+            answer(alloc, pack.as_slice(), &root, text, &mut near)?.is_ok(),
+            "{text}"
+        );
+        assert!(rt; far == near, "{text}");
+        assert_eq!(rt; seen.rounds.get(), rounds, "{text}");
+        assert_eq!(rt; seen.sudden.get(), 2, "{text}");
+        assert_eq!(rt; seen.again.get(), 0, "{text}");
+    }
+    Ok(())
+}
+
+/// Where any read fails once there is the answer, or it is told that the device failed.
+#[test]
+fn tells_a_failed_read(rt: HostRuntime) -> Result<(), Fail> {
+    let alloc = rt.alloc();
+    for (text, expected) in ANSWERS {
+        for before in 2..12 {
+            let seen = Seen::new();
+            let mut into = Vec::new(alloc);
+            let mut remote = Remote::new(alloc, PACK, &seen);
+            remote.before = Some(before);
+            match answer(alloc, remote, &ROOT, text, &mut into)? {
+                Ok(()) => assert_eq!(rt; into.as_slice(), expected.as_bytes(), "{text}"),
+                Err(fault) => assert!(rt; fault == AnswerFault::Source(Refused::Device), "{text}"),
+            }
+        }
+    }
+    Ok(())
+}
+
+/// Run with each allocation refused in turn: the answer, or out of memory and then the answer.
+#[test]
+fn answers_from_afar_within_memory(rt: HostRuntime) -> Result<(), Fail> {
+    let alloc = rt.alloc();
+    let (text, expected) = ANSWERS[2];
+    let seen = Seen::new();
+    let mut into = Vec::new(alloc);
+    let remote = Remote::new(alloc, PACK, &seen);
+    if let Err(fault) = answer(alloc, remote, &ROOT, text, &mut into)? {
+        let is_memory = fault == AnswerFault::Source(Refused::Memory)
+            || fault == AnswerFault::Evaluation(EvalFault::Memory);
+        assert!(rt; is_memory, "{fault}");
+        assert_eq!(rt; into.len(), 0);
+        let again = Remote::new(alloc, PACK, &seen);
+        assert!(rt; answer(alloc, again, &ROOT, text, &mut into)?.is_ok());
+    }
+    assert_eq!(rt; into.as_slice(), expected.as_bytes());
+    Ok(())
+}
