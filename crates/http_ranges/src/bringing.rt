@@ -1,5 +1,8 @@
 //! Bringing parts of a file ahead.
 
+ghost use Rattle.std.specs.Prelude.{◌<◌, ◌≤◌};
+ghost use Rattle.http_ranges.specs.declared.limits.TheConstants.{DEPTH_LIMIT, WIRES};
+
 use crate::address::Address;
 use crate::byte_range::ByteRange;
 use crate::http_file::HttpFile;
@@ -50,7 +53,10 @@ impl<W: Wires + Drop> HttpFile<'_, W> {
 
     /// How many requests are sent over a connection before an answer is read: so many that the buffers of the sockets take them.
     /// One, where the server closes connections after their answers.
-    fn depth(&self) -> usize {
+    fn depth(&self) -> usize
+        ensures some { 0 < result }
+        ensures few { result ≤ DEPTH_LIMIT }
+    {
         if self.is_persistent {
             depth_for(&self.address)
         } else {
@@ -211,14 +217,14 @@ fn span_of(place: Place, size: u64) -> Option<Span> {
 /// Leaves out the spans behind those that have so many bytes together.
 fn cut(spans: &mut Vec<Span>, most: u64) {
     let mut left = most;
-    let mut count = 0;
+    let mut count: usize = 0;
     for span in spans.iter() {
         let len = span.end.saturating_sub(span.start);
         if len > left {
             break;
         }
         left -= len;
-        count += 1;
+        count = count.saturating_add(1);
     }
     spans.truncate(count);
 }

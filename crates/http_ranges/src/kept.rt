@@ -1,6 +1,6 @@
 //! What was read of a file before it was asked for.
 
-ghost use Rattle.std.specs.Prelude.{◌≡◌, IfSome};
+ghost use Rattle.std.specs.Prelude.{◌≡◌, IfSome, length};
 ghost use Rattle.http_ranges.specs.KeptParts.{IsPartOf};
 
 use crate::span::Span;
@@ -35,7 +35,8 @@ impl Kept {
     /// The bytes of the file from the offset on, if so many are kept in one span. A span is found that starts last before
     /// the offset, or there.
     pub(crate) fn find(&self, offset: u64, len: usize) -> Option<&[u8]>
-        ensures { IfSome result (λ part. IsKept self.now offset len part.now) }
+        ensures kept { IfSome result (λ part. IsKept self.now offset len part.now) }
+        ensures whole { IfSome result (λ part. length part.now ≡ len) }
     {
         let place = self.place_before(offset)?;
         if place >= self.spans.len() {
@@ -70,7 +71,8 @@ impl Kept {
 
 /// So many of the kept bytes of a span, from an offset of the file on; `None` where it hasn't so many.
 fn part_of(bytes: &[u8], kept: KeptSpan, offset: u64, len: usize) -> Option<&[u8]>
-    ensures { IfSome result (λ part. IsPartOf bytes.now kept offset len part.now) }
+    ensures part { IfSome result (λ part. IsPartOf bytes.now kept offset len part.now) }
+    ensures whole { IfSome result (λ part. length part.now ≡ len) }
 {
     let skipped = offset.checked_sub(kept.span.start)?;
     let end = offset.checked_add(len as u64)?;
