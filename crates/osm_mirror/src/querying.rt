@@ -25,10 +25,12 @@ use tree_node::Digest;
 const BYTE_LIMIT: u64 = 1_073_741_824;
 
 /// Why a place that begins with `https://` is refused.
-const TLS: &str = "https isn't spoken: put a local proxy before the server that speaks it, and name the proxy as http://HOST:PORT/PATH. The answer is checked in any case, so that no trust is needed in either";
+const TLS: &str =
+    "https isn't spoken: put a local proxy before the server that speaks it, and name the proxy as http://HOST:PORT/PATH. The answer is checked in any case, so that no trust is needed in either";
 
 /// Why a place that begins with `http://` is refused.
-const MALFORMED: &str = "it isn't of the form http://HOST[:PORT]/PATH, in visible ASCII characters, without a user's name and without a fragment";
+const MALFORMED: &str =
+    "it isn't of the form http://HOST[:PORT]/PATH, in visible ASCII characters, without a user's name and without a fragment";
 
 /// Starts `query`, as its job says.
 pub(crate) fn start_query(rt: &HostRuntime, job: Job) -> Status
@@ -145,7 +147,10 @@ fn host_of(rt: &HostRuntime, address: &Address<'_>) -> Result<String, AllocError
 fn refuse_place(rt: &HostRuntime, place: &str, why: &str) -> Status {
     let errors = &mut rt.stderr();
     // Where standard error takes nothing, the status still tells.
-    let _ = writeln!(errors, "error: invalid value '{place}' for '<PLACE>': {why}");
+    let _ = writeln!(
+        errors,
+        "error: invalid value '{place}' for '<PLACE>': {why}"
+    );
     let _ = writeln!(errors, "\nFor more information, try '--help'.");
     Status::Refused
 }
