@@ -9,12 +9,12 @@ use std::cell::Cell;
 use std::process::Abort;
 use std::test::Fail;
 
-/// What a response is refused for whose bytes these are, and that goes on with so many bytes of a field that doesn't end.
+/// What a response is refused for that comes byte by byte, whose bytes these are, and that goes on with so many bytes of a field that doesn't end.
 fn refusal(alloc: Global, text: &str, more: usize) -> Result<Option<NotGiven>, AllocError> {
     let given = given(alloc, text, more)?;
     let reason = Cell::new(None);
     let opened = Cell::new(0);
-    let script = Script::new(&given, 1000, 1000, &opened);
+    let script = Script::new(&given, 1, 100_000, &opened);
     let mut file = HttpFile::new(alloc, script, ADDRESS, 1_000_000, &reason);
     match file.size() {
         Ok(_) => Ok(None),

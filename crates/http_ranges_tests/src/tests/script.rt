@@ -3,12 +3,15 @@
 use http_ranges::{Transfer, WIRES, Wires};
 use std::cell::Cell;
 
+/// How many bytes a text may have that comes in small pieces.
+const LONG: usize = 10_000;
+
 /// What a server gives on its connections, in the order in which they are opened, and how many calls go well. On each it has
 /// some texts: as many of them come as requests were sent, and then it closes the connection.
 #[derive(Drop)]
 pub(crate) struct Script<'a> {
     given: &'a [Vec<Vec<u8>>],
-    /// How many bytes one receive gives at most.
+    /// How many bytes one receive gives at most. A text of more than [`LONG`] bytes comes in pieces of any length.
     step: usize,
     calls: u32,
     /// How many connections were opened.
@@ -87,7 +90,12 @@ impl Wires for Script<'_> {
         }
         let at = self.at[wire].min(text.len());
         let rest = &text[at..];
-        let count = rest.len().min(piece.len()).min(self.step);
+        let step = if text.len() > LONG {
+            rest.len()
+        } else {
+            self.step
+        };
+        let count = rest.len().min(piece.len()).min(step);
         if count == 0 {
             return Transfer::Closed;
         }
