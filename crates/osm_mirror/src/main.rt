@@ -24,6 +24,7 @@ mod root_file;
 mod server_errors;
 mod serving;
 mod tcp_dial;
+mod tcp_wires;
 mod telling;
 mod watched;
 

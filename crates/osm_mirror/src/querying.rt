@@ -5,20 +5,32 @@ ghost use Rattle.osm_mirror.specs.Jobs.{IsQuery};
 use crate::clean_output::CleanOutput;
 use crate::in_words::{Subject, tell_in_words};
 use crate::pack_file::PackFile;
+use crate::tcp_wires::TcpWires;
 use crate::telling::trouble_of;
 use command_line::Job;
+use http_ranges::{Address, HttpFile, NotGiven, Target, read_target};
 use node_pack::PackFault;
 use osm_commands::{CommandFault, Status};
 use osm_forms::Form;
 use osm_packs::{NotAnswered, query};
 use outside_answer::Limits;
 use outside_shelf::Refused;
-use std::fs::File;
-use std::io::Write;
+use std::alloc::AllocError;
+use std::cell::Cell;
+use std::io::{IsTerminal, Write};
+use std::str;
 use tree_node::Digest;
 
 /// How many bytes of nodes a query may read, if no limit is given.
 const BYTE_LIMIT: u64 = 1_073_741_824;
+
+/// Why a place that begins with `https://` is refused.
+const TLS: &str =
+    "https isn't spoken: put a local proxy before the server that speaks it, and name the proxy as http://HOST:PORT/PATH. The answer is checked in any case, so that no trust is needed in either";
+
+/// Why a place that begins with `http://` is refused.
+const MALFORMED: &str =
+    "it isn't of the form http://HOST[:PORT]/PATH, in visible ASCII characters, without a user's name and without a fragment";
 
 /// Starts `query`, as its job says.
 pub(crate) fn start_query(rt: &HostRuntime, job: Job) -> Status
@@ -42,7 +54,7 @@ pub(crate) fn start_query(rt: &HostRuntime, job: Job) -> Status
     query_place(rt, &root, &place, &query, form, limits)
 }
 
-/// Finds the answer to a query in the pack of this file, and writes it.
+/// Finds the answer to a query in the pack at this place, and writes it.
 fn query_place(
     rt: &HostRuntime,
     root: &Digest,
@@ -51,46 +63,151 @@ fn query_place(
     form: Form,
     limits: Limits,
 ) -> Status {
+    match read_target(place.as_bytes()) {
+        Target::File => query_file(rt, root, place, text, form, limits),
+        Target::Http(address) => query_server(rt, root, place, &address, text, form, limits),
+        Target::Tls => refuse_place(rt, place, TLS),
+        Target::Malformed => refuse_place(rt, place, MALFORMED),
+    }
+}
+
+/// Finds the answer in the pack of this file.
+fn query_file(
+    rt: &HostRuntime,
+    root: &Digest,
+    path: &str,
+    text: &str,
+    form: Form,
+    limits: Limits,
+) -> Status {
+    let error = Cell::new(None);
     let outcome = query(
         rt.alloc(),
         form,
         root,
         text.as_bytes(),
         limits,
-        PackFile::new(rt, place),
+        PackFile::new(rt, path, &error),
+        &mut CleanOutput::new(rt),
+    );
+    match outcome {
+        Ok(()) => Status::Done,
+        Err(fault) => tell(rt, fault, path, text, error.get()),
+    }
+}
+
+/// Finds the answer in the pack on this server.
+fn query_server(
+    rt: &HostRuntime,
+    root: &Digest,
+    place: &str,
+    address: &Address<'_>,
+    text: &str,
+    form: Form,
+    limits: Limits,
+) -> Status {
+    let Ok(host) = host_of(rt, address) else {
+        return tell(rt, NotAnswered::Memory, place, text, None);
+    };
+    let error = Cell::new(None);
+    let reason = Cell::new(None);
+    let wires = TcpWires::new(rt, &host, &error);
+    let budget = limits.bytes.unwrap_or(BYTE_LIMIT);
+    let outcome = query(
+        rt.alloc(),
+        form,
+        root,
+        text.as_bytes(),
+        limits,
+        HttpFile::new(rt.alloc(), wires, *address, budget, &reason),
         &mut CleanOutput::new(rt),
     );
     let Err(fault) = outcome else {
         return Status::Done;
     };
+    let status = tell(rt, fault, place, text, error.get());
+    if is_of_device(fault) {
+        tell_reason(rt, place, reason.get());
+    }
+    status
+}
+
+/// The name of the server with its port, which is 80 if none is given.
+fn host_of(rt: &HostRuntime, address: &Address<'_>) -> Result<String, AllocError> {
+    // It has visible ASCII characters only.
+    let host = str::from_utf8(address.host).unwrap_or("");
+    if address.has_port() {
+        String::from_str(rt.alloc(), host)
+    } else {
+        format!(in rt.alloc(); "{host}:80")
+    }
+}
+
+/// How the program ends where a place is no place, as where any other word of the command line is wrong.
+fn refuse_place(rt: &HostRuntime, place: &str, why: &str) -> Status {
+    let errors = &mut rt.stderr();
+    // Where standard error takes nothing, the status still tells.
+    let _ = writeln!(
+        errors,
+        "error: invalid value '{place}' for '<PLACE>': {why}"
+    );
+    let _ = writeln!(errors, "\nFor more information, try '--help'.");
+    Status::Refused
+}
+
+/// How the program ends with this fault. It is told in one line, and then in words where somebody looks.
+fn tell(
+    rt: &HostRuntime,
+    fault: NotAnswered,
+    place: &str,
+    query: &str,
+    error: Option<i32>,
+) -> Status {
     // Where standard error takes nothing, the status still tells.
     let _ = writeln!(rt.stderr(), "{fault}");
-    explain_fault(rt, fault, place, text);
+    explain_fault(rt, fault, place, query, error);
     fault.status()
 }
 
 /// What the fault means, in words, where somebody looks.
-fn explain_fault(rt: &HostRuntime, fault: NotAnswered, place: &str, query: &str) {
+fn explain_fault(
+    rt: &HostRuntime,
+    fault: NotAnswered,
+    place: &str,
+    query: &str,
+    error: Option<i32>,
+) {
     let subject = &Subject {
         front: &[],
         query: query.as_bytes(),
-        troubles: &[trouble_of(place, open_error(rt, place))],
+        troubles: &[trouble_of(place, error)],
     };
     match fault {
         NotAnswered::Query(fault) => tell_in_words(rt, CommandFault::Query(fault), subject),
         NotAnswered::Work => tell_in_words(rt, CommandFault::Work, subject),
         NotAnswered::Memory => tell_in_words(rt, CommandFault::Memory, subject),
-        NotAnswered::Pack(PackFault::Device)
-        | NotAnswered::Node(Refused::Device)
-        | NotAnswered::Device => tell_in_words(rt, CommandFault::Device, subject),
+        fault if is_of_device(fault) => tell_in_words(rt, CommandFault::Device, subject),
         _ => {}
     }
 }
 
-/// What the system says where the file can't be opened.
-fn open_error(rt: &HostRuntime, path: &str) -> Option<i32> {
-    match File::open(rt, path) {
-        Ok(_) => None,
-        Err(error) => error.raw_os_error(),
+/// Whether the pack's device failed, or the output.
+fn is_of_device(fault: NotAnswered) -> bool {
+    matches!(
+        fault,
+        NotAnswered::Pack(PackFault::Device)
+            | NotAnswered::Node(Refused::Device)
+            | NotAnswered::Device
+    )
+}
+
+/// Why the server gave no bytes, where somebody looks.
+fn tell_reason(rt: &HostRuntime, place: &str, reason: Option<NotGiven>) {
+    let errors = &mut rt.stderr();
+    if !errors.is_terminal() {
+        return;
+    }
+    if let Some(reason) = reason {
+        let _ = writeln!(errors, "{place}: {reason}");
     }
 }

@@ -22,6 +22,8 @@ const RETRY_LIMIT: u32 = 1000;
 pub(crate) struct TcpDial<'a> {
     rt: &'a HostRuntime,
     place: &'a str,
+    /// How long the first byte of a response may take, in seconds.
+    patience: u64,
     stream: Option<TcpStream>,
     /// When the first byte of the response came, and how many have come since.
     begun: Option<Instant>,
@@ -33,9 +35,19 @@ pub(crate) struct TcpDial<'a> {
 impl<'a> TcpDial<'a> {
     /// Nothing is opened yet.
     pub(crate) fn new(rt: &'a HostRuntime, place: &'a str) -> TcpDial<'a> {
+        TcpDial::of_patience(rt, place, ANSWER_SECONDS)
+    }
+
+    /// A place that only reads what it answers: the first byte may take no longer than the next ones.
+    pub(crate) fn of_files(rt: &'a HostRuntime, place: &'a str) -> TcpDial<'a> {
+        TcpDial::of_patience(rt, place, CALL_SECONDS)
+    }
+
+    fn of_patience(rt: &'a HostRuntime, place: &'a str, patience: u64) -> TcpDial<'a> {
         TcpDial {
             rt,
             place,
+            patience,
             stream: None,
             begun: None,
             received: 0,
@@ -46,6 +58,12 @@ impl<'a> TcpDial<'a> {
     /// What the system said of the last call that failed.
     pub(crate) fn error(&self) -> Option<i32> {
         self.error
+    }
+
+    /// A further response is awaited: its pace is counted from its first byte on.
+    pub(crate) fn begin(&mut self) {
+        self.begun = None;
+        self.received = 0;
     }
 
     /// A connection to the first of the place's addresses that takes one.
@@ -101,15 +119,16 @@ impl<'a> Dial for TcpDial<'a> {
     ghost log = { λ _. None };
 
     fn open(&mut self) -> bool {
-        self.begun = None;
-        self.received = 0;
+        self.begin();
         self.stream = self.connect();
         let Some(stream) = &self.stream else {
             return false;
         };
+        // What was said of an address before doesn't matter now.
+        self.error = None;
         // A connection that may wait for ever is none.
         stream
-            .set_read_timeout(Some(Duration::from_secs(ANSWER_SECONDS)))
+            .set_read_timeout(Some(Duration::from_secs(self.patience)))
             .is_ok()
             && stream
                 .set_write_timeout(Some(Duration::from_secs(CALL_SECONDS)))

@@ -1,0 +1,3 @@
+mod HeadLemmas
+mod PassingLemmas
+mod SpanLemmas

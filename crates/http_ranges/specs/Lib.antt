@@ -1,0 +1,12 @@
+pub mod AddressBytes
+pub mod Addresses
+pub mod Appending
+pub mod Fields
+pub mod Heads
+pub mod Judgements
+pub mod KeptParts
+pub mod Passing
+pub mod Ranges
+pub mod Requests
+pub mod Spans
+pub mod Transfers

@@ -1,0 +1,89 @@
+//! The connections to a server of files, over TCP.
+
+use crate::tcp_dial::TcpDial;
+use http_ranges::{Transfer, Wires};
+use mirror_reply::{Dial, Receipt};
+use std::cell::Cell;
+
+/// The connections to a server of files at a place `HOST:PORT`. What the system said of the last call that failed is left where
+/// the caller sees it.
+#[derive(Drop)]
+pub(crate) struct TcpWires<'a> {
+    rt: &'a HostRuntime,
+    place: &'a str,
+    dials: Vec<TcpDial<'a>>,
+    error: &'a Cell<Option<i32>>,
+}
+
+impl<'a> TcpWires<'a> {
+    /// Nothing is opened yet.
+    pub(crate) fn new(
+        rt: &'a HostRuntime,
+        place: &'a str,
+        error: &'a Cell<Option<i32>>,
+    ) -> TcpWires<'a> {
+        TcpWires {
+            rt,
+            place,
+            dials: Vec::new(rt.alloc()),
+            error,
+        }
+    }
+
+    /// A call that failed: the connection was closed or broken, or nothing moved in time.
+    fn failed(&self, error: Option<i32>) -> Transfer {
+        self.error.set(error);
+        match error {
+            Some(code) if code != libc::EAGAIN && code != libc::ETIMEDOUT => Transfer::Closed,
+            _ => Transfer::Silent,
+        }
+    }
+}
+
+impl Wires for TcpWires<'_> {
+    /// A server may give anything.
+    ghost heard = { λ _ _ _. ⊥ };
+
+    fn open(&mut self, wire: usize) -> bool {
+        for _ in self.dials.len()..=wire {
+            let dial = TcpDial::of_files(self.rt, self.place);
+            if self.dials.push(dial).is_err() {
+                return false;
+            }
+        }
+        let Some(dial) = self.dials.get_mut(wire) else {
+            return false;
+        };
+        let is_open = dial.open();
+        if !is_open {
+            self.error.set(dial.error());
+        }
+        is_open
+    }
+
+    fn send(&mut self, wire: usize, bytes: &[u8]) -> Transfer {
+        let Some(dial) = self.dials.get_mut(wire) else {
+            return Transfer::Closed;
+        };
+        dial.begin();
+        let sent = dial.send(bytes);
+        let error = dial.error();
+        match sent {
+            Some(count) if count <= bytes.len() => Transfer::Moved(count),
+            _ => self.failed(error),
+        }
+    }
+
+    fn receive(&mut self, wire: usize, piece: &mut [u8]) -> Transfer {
+        let Some(dial) = self.dials.get_mut(wire) else {
+            return Transfer::Closed;
+        };
+        let received = dial.receive(piece);
+        let error = dial.error();
+        match received {
+            Receipt::Got(count) if count > 0 && count <= piece.len() => Transfer::Moved(count),
+            Receipt::Got(_) | Receipt::Ended => Transfer::Closed,
+            Receipt::Broken => self.failed(error),
+        }
+    }
+}
