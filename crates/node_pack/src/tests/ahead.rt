@@ -138,14 +138,14 @@ fn expects_what_is_led_to(rt: HostRuntime) -> Result<(), Fail> {
     Ok(())
 }
 
-/// Puts a node of the tree of tags above these children, each beside its greatest key, and gives its digest.
+/// Puts a node of the tree of tags above these four children, each beside its greatest key, and gives its digest.
 fn put_above(
     alloc: Global,
     stock: &mut Stock,
     level: u8,
     children: &[(u8, Digest)],
 ) -> Result<Digest, Fail> {
-    let mut bytes = vec![in alloc; 2, level, 0, children.len() as u8]?;
+    let mut bytes = vec![in alloc; 2, level, 0, 4]?;
     for child in children {
         bytes.extend_from_slice(&[0, 1, child.0, 0, 0, 0, 0, 0, 0, 0, 1])?;
         bytes.extend_from_slice(&child.1.0)?;
@@ -179,20 +179,68 @@ fn put_level(
     Ok(above)
 }
 
-/// Of a tree of 64 leaves, 16 nodes above them, 4 above those, and the top, the hints bring just the nodes that their keys lead
-/// to, in four rounds.
+/// A pack, its root, the top of its tree of tags, and the leaves of that tree.
+#[derive(Drop)]
+struct Deep {
+    pack: Vec<u8>,
+    root: Digest,
+    top: Digest,
+    leaves: Vec<(u8, Digest)>,
+}
+
+/// The pack of a tree of 64 leaves, 16 nodes above them, 4 above those, and the top.
+fn deep_pack(alloc: Global) -> Result<Deep, Fail> {
+    let mut stock = small_stock(alloc).ok_or("no memory")?;
+    let leaves = put_leaves(alloc, &mut stock)?;
+    let first = put_level(alloc, &mut stock, 1, leaves.as_slice())?;
+    let second = put_level(alloc, &mut stock, 2, first.as_slice())?;
+    let top = put_above(alloc, &mut stock, 3, second.as_slice())?;
+    let tops = [NODES[2].0, top, NODES[5].0, NODES[6].0];
+    let root = put_manifest(alloc, &mut stock, tops)?;
+    let mut pack = Vec::new(alloc);
+    let mut shelf = stock.shelf(alloc);
+    write_pack(alloc, &mut shelf, &root, &mut pack)?;
+    Ok(Deep {
+        pack,
+        root,
+        top,
+        leaves,
+    })
+}
+
+/// Reads the leaves of a range that was announced.
+fn read_leaves<F: ReadAt + Drop>(
+    source: &mut PackSource<F>,
+    leaves: &[(u8, Digest)],
+    hint: (u8, u8),
+    into: &mut Vec<u8>,
+) -> Result<(), Fail> {
+    for leaf in leaves {
+        if hint.0 <= leaf.0 && leaf.0 <= hint.1 {
+            source.read_node(&leaf.1, 1000, into)?;
+        }
+    }
+    Ok(())
+}
+
+/// Announces two ranges, and reads the top and then the leaves in them.
+fn read_ranges(alloc: Global, deep: &Deep, hints: [(u8, u8); 2], seen: &Seen) -> Result<(), Fail> {
+    let mut into = Vec::new(alloc);
+    let remote = Remote::new(alloc, deep.pack.as_slice(), seen);
+    let mut source = PackSource::open(alloc, remote)?;
+    source.read_node(&deep.root, 1000, &mut into)?;
+    let [one, other] = hints;
+    source.announce(&deep.top, &[one.0], &[one.1]);
+    source.announce(&deep.top, &[other.0], &[other.1]);
+    source.read_node(&deep.top, 1000, &mut into)?;
+    read_leaves(&mut source, deep.leaves.as_slice(), one, &mut into)?;
+    read_leaves(&mut source, deep.leaves.as_slice(), other, &mut into)
+}
+
+/// Hints bring just the nodes that their keys lead to, a level a round.
 #[test]
 fn goes_by_levels(rt: HostRuntime) -> Result<(), Fail> {
-    let mut stock = small_stock(rt.alloc()).ok_or("no memory")?;
-    let leaves = put_leaves(rt.alloc(), &mut stock)?;
-    let first = put_level(rt.alloc(), &mut stock, 1, leaves.as_slice())?;
-    let second = put_level(rt.alloc(), &mut stock, 2, first.as_slice())?;
-    let top = put_above(rt.alloc(), &mut stock, 3, second.as_slice())?;
-    let tops = [NODES[2].0, top, NODES[5].0, NODES[6].0];
-    let root = put_manifest(rt.alloc(), &mut stock, tops)?;
-    let mut pack = Vec::new(rt.alloc());
-    let mut shelf = stock.shelf(rt.alloc());
-    write_pack(rt.alloc(), &mut shelf, &root, &mut pack)?;
+    let deep = deep_pack(rt.alloc())?;
     for (hints, rounds, places) in [
         ([(0, 63), (0, 63)], 4, 85),
         ([(5, 5), (5, 5)], 4, 4),
@@ -204,22 +252,7 @@ fn goes_by_levels(rt: HostRuntime) -> Result<(), Fail> {
         ([(64, 255), (64, 64)], 1, 1),
     ] {
         let seen = Seen::new();
-        let mut into = Vec::new(rt.alloc());
-        let remote = Remote::new(rt.alloc(), pack.as_slice(), &seen);
-        let mut source = PackSource::open(rt.alloc(), remote)?;
-        source.read_node(&root, 1000, &mut into)?;
-        for (lo, hi) in hints {
-            source.announce(&top, &[lo], &[hi]);
-        }
-        source.read_node(&top, 1000, &mut into)?;
-        for leaf in &leaves {
-            if hints
-                .iter()
-                .any(|hint| hint.0 <= leaf.0 && leaf.0 <= hint.1)
-            {
-                source.read_node(&leaf.1, 1000, &mut into)?;
-            }
-        }
+        read_ranges(rt.alloc(), &deep, hints, &seen)?;
         assert_eq!(rt; seen.rounds.get(), rounds, "{places}");
         assert_eq!(rt; seen.places.get(), places);
         assert_eq!(rt; seen.again.get(), 0);
