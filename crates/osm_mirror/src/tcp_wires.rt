@@ -30,12 +30,12 @@ impl<'a> TcpWires<'a> {
         }
     }
 
-    /// A call that failed: the connection was closed or broken, or nothing moved in time.
-    fn failed(&self, error: Option<i32>) -> Transfer {
+    /// Whether a call failed because the connection was closed or broken, and not because nothing moved in time.
+    fn was_closed(&self, error: Option<i32>) -> bool {
         self.error.set(error);
         match error {
-            Some(code) if code != libc::EAGAIN && code != libc::ETIMEDOUT => Transfer::Closed,
-            _ => Transfer::Silent,
+            Some(code) => code != libc::EAGAIN && code != libc::ETIMEDOUT,
+            None => false,
         }
     }
 }
@@ -70,7 +70,8 @@ impl Wires for TcpWires<'_> {
         let error = dial.error();
         match sent {
             Some(count) if count <= bytes.len() => Transfer::Moved(count),
-            _ => self.failed(error),
+            _ if self.was_closed(error) => Transfer::Closed,
+            _ => Transfer::Silent,
         }
     }
 
@@ -83,7 +84,8 @@ impl Wires for TcpWires<'_> {
         match received {
             Receipt::Got(count) if count > 0 && count <= piece.len() => Transfer::Moved(count),
             Receipt::Got(_) | Receipt::Ended => Transfer::Closed,
-            Receipt::Broken => self.failed(error),
+            Receipt::Broken if self.was_closed(error) => Transfer::Closed,
+            Receipt::Broken => Transfer::Silent,
         }
     }
 }
