@@ -46,7 +46,7 @@ pub(crate) const MIRROR: Argument = Argument {
 /// Where a pack is.
 pub(crate) const PLACE: Argument = Argument {
     name: "PLACE",
-    help: "File of the pack",
+    help: "File of the pack, or http://HOST[:PORT]/PATH",
 };
 
 /// The command with these positional arguments, in order, each of which has to be there.
