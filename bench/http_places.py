@@ -41,7 +41,7 @@ def nginx_of(folder, room):
 
 
 def main():
-    runs, extract = int(sys.argv[1]), Path(sys.argv[2])
+    runs, extract = int(sys.argv[1]), Path(sys.argv[2]).resolve()
     pack = extract.with_suffix(".pack")
     with extract.open("rb") as lines:
         objects = sum(1 for _ in lines)

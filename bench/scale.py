@@ -1,5 +1,5 @@
 #!/usr/bin/env python3
-"""What bench/scale.sh measures: scale.py EXTRACT.opl. Prints the rows of docs/SCALE.md for one size."""
+"""What bench/scale.sh measures: scale.py EXTRACT.opl. Prints what an extract of one size costs."""
 
 import os
 import re

@@ -1,6 +1,6 @@
 #!/usr/bin/env bash
 # How time, memory, disk and the bytes of a query grow with a set: extracts of 115,500, 1,155,000 and 11,550,000 objects,
-# or of the given shares of 1,155,000. docs/SCALE.md reckons from what it prints. The largest needs some 12 GB of disk in
+# or of the given shares of 1,155,000. The largest needs some 12 GB of disk in
 # bench/data, 8 GB of memory and ten minutes.
 #
 #   apt-get install strace time
