@@ -172,7 +172,7 @@ def check_refused_calls(tally, packs, folder):
     root, path = packs[b"F", b"2", b"0"]
     place = folder / "each.pack"
     whole = path.read_bytes()
-    # (a file whose name beside its place can't be made for want of memory is a writer that fails)
+    # (a file whose name beside its place can't be made, since memory is refused, is a writer that fails)
     for kind, told in [
         ("REFUSE_ALLOCATION", [b"no memory\n", b"device\n"]),
         ("REFUSE_WRITE", [b"device\n"]),
