@@ -22,7 +22,7 @@ is_path_byte b = is_visible b && not (b == 35)
 abbrev pub is_path : List ℕ → Bool
 is_path bytes = list_all is_path_byte bytes
 
--- a colon comes behind the last closing bracket
+-- a colon comes after the last closing bracket
 abbrev pub port_after : Bool → List ℕ → Bool
 port_after found [] = found
 port_after found (b ∷ bytes) = port_after (if b == 58 then true else (if b == 93 then false else found)) bytes

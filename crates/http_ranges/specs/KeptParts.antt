@@ -5,8 +5,8 @@ use Rattle.std.specs.List.{Contains}
 use Rattle.http_ranges.specs.declared.kept.Kept.{Kept}
 use Rattle.http_ranges.specs.declared.kept.KeptSpan.{KeptSpan}
 
--- The part has so many bytes of the file from the offset on, which are in the span: those that stand as far behind the span's
--- first byte as the offset is behind its start.
+-- The part has so many bytes of the file from the offset on, which are in the span: those that stand as far after the span's
+-- first byte as the offset is after its start.
 pub record IsPartOf (bytes : List ℕ) (kept : KeptSpan) (offset len : ℕ) (part : List ℕ) : Type 0 where
   pub after : kept.span.start ≤ offset
   pub before : offset + len ≤ kept.span.end

@@ -30,7 +30,7 @@ abbrev pub CoveredBy : List Span → Span → Type 0
 CoveredBy [] span = ⊥
 CoveredBy (other ∷ others) span = ((other.start ≤ span.start) × (span.end ≤ other.end)) ⊎ CoveredBy others span
 
--- this byte is in one of these, or in the gap behind one
+-- this byte is in one of these, or in the gap after one
 abbrev pub IsNear : List Span → ℕ → Type 0
 IsNear [] byte = ⊥
 IsNear (span ∷ spans) byte =
@@ -41,7 +41,7 @@ abbrev pub EndsOne : List Span → ℕ → Type 0
 EndsOne [] end = ⊥
 EndsOne (span ∷ spans) end = (span.end ≡ end) ⊎ EndsOne spans end
 
--- each of its bytes is in one of these or in the gap behind one, and it ends with one
+-- each of its bytes is in one of these or in the gap after one, and it ends with one
 pub record IsDrawn (spans : List Span) (span : Span) : Type 0 where
   pub near : (byte : ℕ) → span.start ≤ byte → byte < span.end → IsNear spans byte
   pub ends : EndsOne spans span.end

@@ -214,7 +214,7 @@ fn span_of(place: Place, size: u64) -> Option<Span> {
     Some(Span { start, end })
 }
 
-/// Leaves out the spans behind those that have so many bytes together.
+/// Leaves out the spans after those that have so many bytes together.
 fn cut(spans: &mut Vec<Span>, most: u64) {
     let mut left = most;
     let mut count: usize = 0;

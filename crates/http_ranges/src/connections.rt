@@ -13,7 +13,7 @@ use crate::receiving::{take_body, take_head};
 use crate::wires::{Transfer, Wires};
 use std::alloc::Global;
 
-/// The connections to a server. Of one at a time responses are received: what came on it behind the last one is forgotten
+/// The connections to a server. Of one at a time responses are received: what came on it after the last one is forgotten
 /// with it.
 #[derive(Drop)]
 pub(crate) struct Connections<W: Wires + Drop> {

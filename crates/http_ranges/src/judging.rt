@@ -36,7 +36,7 @@ pub enum Judgement {
 }
 
 /// What a response is worth to who asked for this range of a file, by its head, which ends with an empty line. The file has
-/// this size, if it is known; the range may go on behind its end. It takes no memory.
+/// this size, if it is known; the range may go on after its end. It takes no memory.
 pub fn judge_head(head: &[u8], asked: ByteRange, size: Option<u64>) -> Judgement
     ensures { IsJudged head.now asked size result }
 {

@@ -57,7 +57,7 @@ impl Kept {
         }
     }
 
-    /// Notes that the bytes of a span were put behind those that were kept, from this place on.
+    /// Notes that the bytes of a span were put after those that were kept, from this place on.
     pub(crate) fn note(&mut self, span: Span, from: usize) -> Result<(), AllocError> {
         self.spans.push(KeptSpan { span, from })?;
         Ok(())

@@ -23,7 +23,7 @@ pub const GAP_LIMIT: u64 = 4096;
 pub const SPAN_LIMIT: u64 = 262_144;
 
 /// How many requests are sent over a connection before the first answer is read.
-pub const DEPTH_LIMIT: usize = 32;
+pub const DEPTH_LIMIT: usize = 128;
 
 /// How many bytes of requests are sent over a connection before the first answer is read. The buffers of two sockets take so
 /// many even if the server reads none of them, so that sending never waits for a server that itself waits for its answers to

@@ -1,10 +1,11 @@
-//! The law of hints, over their definitions alone. There is nothing to do when it runs.
+//! Laws of hints and of the header, over their definitions alone. There is nothing to do when they run.
 
-ghost use Rattle.std.specs.Prelude.{◌≢◌, IfSome, List, Option, true, ℕ};
+ghost use Rattle.std.specs.Prelude.{◌≡◌, ◌≢◌, IfSome, List, Option, true, ℕ};
 ghost use Rattle.tree_node.specs.Nodes.{Link};
 ghost use Rattle.tree_walk.specs.Given.{IsEntered, IsNever};
 ghost use Rattle.tree_walk.specs.Ranges.{Range};
 ghost use Rattle.node_pack.specs.Hints.{Announcement, IsLedChild};
+ghost use Rattle.node_pack.specs.declared.header.TheConstants.{HEADER_LEN, MAGIC, VERSION};
 
 /// The law of hints: what they lead to is what a walk asks for.
 pub fn hint_law()
@@ -16,4 +17,11 @@ pub fn hint_law()
     // A hint leads to no child but those that a walk enters which goes on to all keys that begin with the greatest key.
     ensures led { (hint : Announcement) (child : Option (List ℕ) × Link) → IsLedChild hint child
         → IsEntered IsNever (record { lo = hint.lo; hi = hint.hi; under = true }) child }
+{}
+
+/// A law: the header's constants, as numbers. The first is `OSMK`, with the greatest byte first.
+pub fn header_law()
+    ensures magic { MAGIC ≡ 1330859339 }
+    ensures version { VERSION ≡ 65536 }
+    ensures bytes { HEADER_LEN ≡ 60 }
 {}

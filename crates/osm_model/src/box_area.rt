@@ -109,6 +109,16 @@ impl<'a> BoxArea<'a> {
         self.wraps
     }
 
+    /// Whether the edges of another box have the same digits. Linear in the edges' texts.
+    pub fn is_same(&self, other: &BoxArea<'_>) -> bool
+        ensures { IsTrue result ↔ (self.now ≡ other.now) }
+    {
+        self.south.is_same(&other.south)
+            && self.west.is_same(&other.west)
+            && self.north.is_same(&other.north)
+            && self.east.is_same(&other.east)
+    }
+
     /// Whether a location is in the box or on its edge, by the exact edges: from south to north, and
     /// from west to east. Where west is above east, that is from west on or up to east.
     pub fn holds(&self, place: Coord) -> bool

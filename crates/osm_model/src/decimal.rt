@@ -24,6 +24,26 @@ impl<'a> Parts<'a> {
     {
         self.fraction.unwrap_or(&[])
     }
+
+    /// Whether the sign and the digits of another decimal are the same.
+    pub(crate) fn is_same(self, other: Parts<'_>) -> bool
+        ensures { IsTrue result ↔ (decimal_of self.entry ≡ decimal_of other.entry) }
+    {
+        self.negative == other.negative
+            && self.whole == other.whole
+            && are_same(self.fraction, other.fraction)
+    }
+}
+
+/// Whether two decimals have the same digits after the point, or both no point.
+fn are_same(first: Option<&[u8]>, second: Option<&[u8]>) -> bool
+    ensures { IsTrue result ↔ (fraction_of first.entry ≡ fraction_of second.entry) }
+{
+    match (first, second) {
+        (Some(first), Some(second)) => first == second,
+        (None, None) => true,
+        _ => false,
+    }
 }
 
 /// The parts of a decimal, or `None` where the text is none.

@@ -95,6 +95,13 @@ impl<'a> Edge<'a> {
         self.ceiling
     }
 
+    /// Whether another edge has the same axis, sign and digits. Linear in the edges' texts.
+    pub fn is_same(&self, other: &Edge<'_>) -> bool
+        ensures { IsTrue result ↔ (self.now ≡ other.now) }
+    {
+        self.axis == other.axis && self.parts.is_same(other.parts)
+    }
+
     /// Whether it is above another edge, by their exact values.
     pub(crate) fn is_above(&self, other: &Edge<'a>) -> bool
         ensures { IsTrue result ↔ IsAbove self.now.value other.now.value }

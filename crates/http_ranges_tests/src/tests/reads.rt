@@ -11,7 +11,7 @@ use std::test::Fail;
 /// How many bytes the file has.
 const SIZE: u32 = 70_000;
 
-/// What two connections give: the front of the file and a range behind it, and another such range.
+/// What two connections give: the front of the file and a range after it, and another such range.
 fn given(alloc: Global, file: &[u8]) -> Result<Vec<Vec<Vec<u8>>>, AllocError> {
     let mut one = Vec::new(alloc);
     push_response(alloc, &mut one, file, 0, 65_536)?;

@@ -31,3 +31,18 @@ fn edges_lie_between_whole_units(rt: HostRuntime) -> Result<(), Fail> {
     assert!(rt; edge.at_least(134_000_001) && !edge.at_least(134_000_000));
     Ok(())
 }
+
+#[test]
+fn a_box_is_the_same_by_its_digits(rt: HostRuntime) -> Result<(), Fail> {
+    let area = box_of(b"52.5", b"52.60")?;
+    assert!(rt; area.is_same(&box_of(b"52.5", b"52.60")?));
+    for (south, north) in [
+        (&b"52.5"[..], &b"52.6"[..]),
+        (b"52.50", b"52.60"),
+        (b"-52.5", b"52.60"),
+        (b"52", b"52.60"),
+    ] {
+        assert!(rt; !area.is_same(&box_of(south, north)?));
+    }
+    Ok(())
+}
