@@ -148,7 +148,8 @@ def site():
 def check_order(tally):
     """Lowest first, the longest chain first, no tests; nothing is written but what the program writes."""
     with site() as here:
-        outcome = here.call()
+        # (long enough that two runs meet, however late a loaded machine begins them)
+        outcome = here.call(RT_ROUNDS="20")
         tally.check("the first call", outcome == RAN, outcome)
         done = here.done()
         begun = [line.split()[1] for line in done if line.startswith("begins")]
@@ -161,6 +162,16 @@ def check_order(tally):
         tally.check("rooms are gone", here.is_clean())
         outcome = here.call()
         tally.check("the second call", (outcome, here.done()) == (RAN, []), outcome)
+
+
+def check_wrong_order(tally):
+    """A crate that crates.txt lists after one that stands on it: nothing is built."""
+    with site() as here:
+        (here.top / "crates.txt").write_text(CRATES.replace("left: bottom\n", "") + "left: bottom\n", encoding="utf-8")
+        outcome = here.call()
+        told = b"osm_mirror: crates.txt lists left after left_tests, which stands on it\n"
+        tally.check("not the lowest first", outcome == Outcome(b"", told, 70), outcome)
+        tally.check("nothing is begun", here.done() == [])
 
 
 def check_edit(tally):
@@ -257,6 +268,7 @@ def check_terminal(tally):
 def main():
     tally = Tally()
     check_order(tally)
+    check_wrong_order(tally)
     check_edit(tally)
     check_failure(tally)
     check_interruption(tally)
