@@ -36,3 +36,5 @@ pub mod OutLemmas
 pub mod RememberLemmas
 pub mod MeterLemmas
 pub mod WorkLaws
+pub mod RecallLemmas
+pub mod SameLemmas

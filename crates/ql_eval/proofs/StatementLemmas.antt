@@ -11,19 +11,16 @@ use Rattle.osm_model.specs.declared.reference.Ref.{Ref}
 use Rattle.tree_node.specs.Outcomes.{Outcome, ShelfUse}
 use Rattle.osm_keys.specs.Publications.{Publication}
 use Rattle.osm_keys.proofs.shared.Members.{none}
-use Rattle.ql_syntax.specs.Filters.{Filter}
 use Rattle.ql_syntax.specs.LawfulQueries.{AreInner, IsInner, IsTop}
 use Rattle.ql_syntax.specs.StatementViews.{statement_of, statements_of}
 use Rattle.ql_syntax.specs.Statements.{Statement, Statements, Select, Recurse, Item, Union, Minus, Print, End, Then}
-use Rattle.ql_syntax.specs.declared.pick.Pick.{Pick}
 use Rattle.ql_syntax.specs.declared.statement.Stmt.{Stmt}
 use Rattle.ref_sets.proofs.shared.Adding.{one_more}
 use Rattle.ql_meaning.proofs.shared.MeaningLaws.{after_once}
 use Rattle.ql_meaning.specs.Meanings.{After, AfterAll, Writes, given_by}
-use Rattle.ref_sets.specs.Sets.{IsSetOf}
 use Rattle.ref_sets.specs.NamedSets.{put, Env}
-use Rattle.ql_meaning.specs.Values.{IsRefOf, IsSelected}
-use Rattle.ql_eval.specs.Asks.{AskedBy, AskedByAll, AskedBySelect}
+use Rattle.ql_meaning.specs.Values.{IsRefOf}
+use Rattle.ql_eval.specs.Asks.{AskedBy, AskedByAll}
 use Rattle.ql_eval.specs.Faults.{cause_of_evaluation}
 use Rattle.ql_eval.specs.Questions.{Ask, NeededBy}
 use Rattle.ql_eval.specs.declared.fault.EvalFault.{EvalFault}
@@ -184,16 +181,12 @@ module _ (p : Publication) where
 
 -- ---- statements in the code
 
--- how a statement is run, how statements are, and how a query statement is answered
-abbrev pub RanWell : Publication → Statement → Env → Env → ShelfUse → Result (Unit {0}) EvalFault → Type 0
-RanWell p statement env later shelf result = Outcome cause_of_evaluation (λ _. After p.objects statement env later) (NeededBy p (AskedBy p statement env)) shelf result
+-- how a statement is run, and how statements are, after which something else is so too
+abbrev pub RanWell : Publication → Statement → Env → Env → Type 0 → ShelfUse → Result (Unit {0}) EvalFault → Type 0
+RanWell p statement env later So shelf result = Outcome cause_of_evaluation (λ _. After p.objects statement env later × So) (NeededBy p (AskedBy p statement env)) shelf result
 
-abbrev pub RanAllWell : Publication → Statements → Env → Env → ShelfUse → Result (Vec Ref Global) EvalFault → Type 0
-RanAllWell p parts env later shelf result = Outcome cause_of_evaluation (λ given. AfterAll p.objects parts env later given.items) (NeededBy p (AskedByAll p parts env)) shelf result
-
-abbrev pub SelectedWell : Publication → Env → Pick → List Filter → ShelfUse → Result (List Ref) EvalFault → Type 0
-SelectedWell p env pick filters shelf result =
-    Outcome cause_of_evaluation (λ refs. IsSetOf refs (IsRefOf p.objects (IsSelected p.objects env pick filters))) (NeededBy p (AskedBySelect p env pick filters)) shelf result
+abbrev pub RanAllWell : Publication → Statements → Env → Env → Type 0 → ShelfUse → Result (Vec Ref Global) EvalFault → Type 0
+RanAllWell p parts env later So shelf result = Outcome cause_of_evaluation (λ given. AfterAll p.objects parts env later given.items × So) (NeededBy p (AskedByAll p parts env)) shelf result
 
 module _ {s t : Statement} (same : s ≡ t) where
   pub needs_as : (p : Publication) (env : Env) (x : List ℕ) → NeededBy p (AskedBy p t env) x → NeededBy p (AskedBy p s env) x

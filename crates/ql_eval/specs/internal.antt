@@ -19,3 +19,4 @@ pub mod TrueFaults
 pub mod Objects
 pub mod Remembering
 pub mod Metering
+pub mod Recalling

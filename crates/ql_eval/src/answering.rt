@@ -18,12 +18,14 @@ ghost use Rattle.ql_eval.specs.Written.{HasWritten};
 ghost use Rattle.ql_eval.specs.internal.Links.{AreAllThere};
 ghost use Rattle.ql_eval.specs.internal.Giving.{AllSetsGiven};
 ghost use Rattle.ql_eval.specs.internal.Metering.{IsBounded, IsSpent};
+ghost use Rattle.ql_eval.specs.internal.Recalling.{AreAnswersGiven, AreAnswers};
 ghost use Rattle.tree_walk.specs.Uses.{nodes_around};
 
 use crate::fault::EvalFault;
 use crate::meter::Meter;
 use crate::print::print;
 use crate::run::run;
+use crate::select_memo::SelectMemo;
 use crate::sink::Sink;
 use crate::source::Source;
 use crate::written::written_by;
@@ -65,47 +67,57 @@ pub(crate) fn answer_all<'q, W: Source, T: Sink>(
         meter.old.spent meter.new.spent) }
 {
     let mut sets = NamedSets::new(alloc);
+    let mut memo = SelectMemo::new(alloc);
     for statement in statements {
-        answer_statement(alloc, form, statement, &mut sets, source, meter, sink)?;
+        answer_statement(
+            alloc, form, statement, &mut sets, source, meter, &mut memo, sink,
+        )?;
         meter.charge_run(written_by(statement, &sets))?;
     }
     Ok(())
 }
 
 /// Runs a statement, and writes what it prints.
-fn answer_statement<'q, W: Source, T: Sink>(
+fn answer_statement<'s, 'q, W: Source, T: Sink>(
     alloc: Global,
     form: Form,
-    statement: &Stmt<'q>,
+    statement: &'s Stmt<'q>,
     sets: &mut NamedSets<'q>,
     source: &mut W,
     meter: &mut Meter,
+    memo: &mut SelectMemo<'s, 'q>,
     sink: &mut T,
 ) -> Result<(), EvalFault>
     requires asked { (r : Ref) → HasIdOf (statement_of statement.now) r → W.may_be_absent source.old r }
     requires named { AllSetsGiven (W.gave source.old) (lists_of sets.old.named.items) }
+    requires recalled_named { AreAnswersGiven (W.gave source.old) memo.old.remembered.items }
     ensures later { W.later source.old source.new }
     ensures walked { OnOk result (W.walked source.old source.new) }
     ensures told { IfErr result (W.tells source.new) }
     ensures named { OnOk result (AllSetsGiven (W.gave source.new) (lists_of sets.new.named.items)) }
+    ensures recalled_named { OnOk result (AreAnswersGiven (W.gave source.new) memo.new.remembered.items) }
     ensures kept { T.kept sink.new ≡ T.kept sink.old }
     ensures wrote { (text : List ℕ) × HasWritten (T.stands sink.old) (T.stands sink.new) text }
     ensures answer { let env = lists_of sets.old.named.items in
         let next = lists_of sets.new.named.items in
         (p : Publication) → IsPublication p → W.under source.old p
+        → AreAnswers p (W.used source.old) memo.old.remembered.items
         → AreAllThere p.objects env → IsTop (statement_of statement.now)
         → Outcome cause_of_evaluation (λ _. After p.objects (statement_of statement.now) env next
         × HasWritten (T.stands sink.old) (T.stands sink.new)
-        (told_by (form_text form) p.objects (statement_of statement.now) env))
+        (told_by (form_text form) p.objects (statement_of statement.now) env)
+        × AreAnswers p (W.used source.new) memo.new.remembered.items)
         (NeededBy p (AskedBy p (statement_of statement.now) env))
         (nodes_around W.holds W.used source.old source.new) result }
     ensures bounded { let env = lists_of sets.old.named.items in
         (p : Publication) → IsPublication p → W.under source.old p
+        → AreAnswers p (W.used source.old) memo.old.remembered.items
         → AreAllThere p.objects env → IsTop (statement_of statement.now)
         → HasNoClash p (W.used source.new)
         → IsBounded (WorkOf (form_text form) p (statement_of statement.now) env) meter.old.spent meter.new.spent }
     ensures spent { OnOk result (let env = lists_of sets.old.named.items in
         (p : Publication) → IsPublication p → W.under source.old p
+        → AreAnswers p (W.used source.old) memo.old.remembered.items
         → AreAllThere p.objects env → IsTop (statement_of statement.now)
         → HasNoClash p (W.used source.new)
         → IsSpent (WorkOf (form_text form) p (statement_of statement.now) env) meter.old.spent meter.new.spent) }
@@ -121,6 +133,6 @@ fn answer_statement<'q, W: Source, T: Sink>(
             out.limit,
             sink,
         ),
-        _ => run(alloc, statement, sets, source, meter),
+        _ => run(alloc, statement, sets, source, meter, memo),
     }
 }

@@ -41,8 +41,9 @@ use tree_walk::Tally;
 /// What an evaluation did.
 #[derive(Clone, Copy, Debug, PartialEq, Eq)]
 pub struct Report {
-    /// How many walks it made, counts included. An object that is asked again takes no further walk, and neither does a
-    /// recursion that is asked again from the same set, if the memo had room for it. It stays at the greatest u64.
+    /// How many walks it made, counts included. An object that is asked again takes no further walk. Neither does a recursion
+    /// that is asked again from the same set, nor a query statement that is asked again over the same sets, if there was room
+    /// to remember what it gave. It stays at the greatest u64.
     pub ranges: u64,
     /// How many nodes the walks fetched. It stays at the greatest u64.
     pub fetched: u64,
@@ -182,6 +183,7 @@ pub fn evaluate_in<'a, S: Shelf<'a>, T: Sink>(
 /// each object that the base of a query statement finds, once more for each other filter, and where the base is a key alone,
 /// each object of any kind that has it; each reference of a set that a recursion starts from; and each object that is
 /// printed. What a statement finds is counted once it is found, so the last statement may do more than the budget has left.
+/// What was asked before and is remembered is counted as if it were done again.
 ///
 /// A refusal leaves the text of the sink as it was. The nodes that were fetched until then stay used.
 pub fn evaluate_within<'a, S: Shelf<'a>, T: Sink>(

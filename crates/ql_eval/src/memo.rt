@@ -95,7 +95,7 @@ impl Memo {
 }
 
 /// Whether two lists are the same.
-fn are_same(first: &[Ref], second: &[Ref]) -> bool
+pub(crate) fn are_same(first: &[Ref], second: &[Ref]) -> bool
     ensures { IsTrue result ↔ (first.now ≡ second.now) }
 {
     first == second
@@ -103,18 +103,22 @@ fn are_same(first: &[Ref], second: &[Ref]) -> bool
 
 /// A number that two recursions rarely share.
 fn number_of(how: Recursion, set: &RefSet) -> u64 {
-    let mut number = how as u64;
+    mixed_all(how as u64, set)
+}
+
+/// The number with the references of a set mixed in.
+pub(crate) fn mixed_all(number: u64, set: &RefSet) -> u64 {
+    let mut number = number;
     for name in set.as_slice() {
-        number = mixed(number, *name);
+        number = mixed(number, name.id.cast_unsigned()).wrapping_add(name.kind as u64);
     }
     number
 }
 
-/// The number with a reference mixed in.
-fn mixed(number: u64, name: Ref) -> u64 {
+/// The number with another one mixed in.
+pub(crate) fn mixed(number: u64, other: u64) -> u64 {
     // A prime near 2^64 / the golden ratio.
-    (number ^ name.id.cast_unsigned())
+    (number ^ other)
         .wrapping_mul(0x9E37_79B9_7F4A_7C15)
         .rotate_left(29)
-        .wrapping_add(name.kind as u64)
 }

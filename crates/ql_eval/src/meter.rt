@@ -78,6 +78,14 @@ impl Meter {
         self.stop()
     }
 
+    /// Counts so much work as was counted for the same before. Refused as [`Meter::charge`].
+    pub(crate) fn charge_again(&mut self, work: u128) -> Result<(), AllocError>
+        ensures { IsCounted self.old.spent self.new.spent work }
+    {
+        self.spent = added(self.spent, work);
+        self.stop()
+    }
+
     /// Refused where the budget is passed.
     fn stop(&self) -> Result<(), AllocError> {
         if self.passes(self.most) {

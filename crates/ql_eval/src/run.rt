@@ -16,12 +16,14 @@ ghost use Rattle.ql_eval.specs.internal.Lawful.{CanRun, CanRunAll};
 ghost use Rattle.ql_eval.specs.internal.Links.{AreAllThere};
 ghost use Rattle.ql_eval.specs.internal.Giving.{AllGiven, AllSetsGiven};
 ghost use Rattle.ql_eval.specs.internal.Metering.{IsBounded, IsSpent};
+ghost use Rattle.ql_eval.specs.internal.Recalling.{AreAnswersGiven, AreAnswers};
 ghost use Rattle.tree_walk.specs.Uses.{nodes_around};
 
 use crate::fault::EvalFault;
 use crate::meter::Meter;
 use crate::recursions::recurse_once;
-use crate::select::select;
+use crate::select_memo::SelectMemo;
+use crate::select_once::select_once;
 use crate::source::Source;
 use crate::written::{shared_by, written_by};
 use osm_model::Ref;
@@ -31,32 +33,39 @@ use std::alloc::Global;
 
 /// Runs a statement: the set that it writes is written. An out writes none.
 #[cycle(run)]
-pub(crate) fn run<'q, W: Source>(
+pub(crate) fn run<'s, 'q, W: Source>(
     alloc: Global,
-    statement: &Stmt<'q>,
+    statement: &'s Stmt<'q>,
     sets: &mut NamedSets<'q>,
     source: &mut W,
     meter: &mut Meter,
+    memo: &mut SelectMemo<'s, 'q>,
 ) -> Result<(), EvalFault>
     requires asked { (r : Ref) → HasIdOf (statement_of statement.now) r → W.may_be_absent source.old r }
     requires named { AllSetsGiven (W.gave source.old) (lists_of sets.old.named.items) }
+    requires recalled_named { AreAnswersGiven (W.gave source.old) memo.old.remembered.items }
     ensures later { W.later source.old source.new }
     ensures walked { OnOk result (W.walked source.old source.new) }
     ensures told { IfErr result (W.tells source.new) }
     ensures named { OnOk result (AllSetsGiven (W.gave source.new) (lists_of sets.new.named.items)) }
+    ensures recalled_named { OnOk result (AreAnswersGiven (W.gave source.new) memo.new.remembered.items) }
     ensures answer { let env = lists_of sets.old.named.items in
         let next = lists_of sets.new.named.items in
-        (p : Publication) → IsPublication p → W.under source.old p → AreAllThere p.objects env
+        (p : Publication) → IsPublication p → W.under source.old p
+        → AreAnswers p (W.used source.old) memo.old.remembered.items → AreAllThere p.objects env
         → CanRun (statement_of statement.now)
-        → Outcome cause_of_evaluation (λ _. After p.objects (statement_of statement.now) env next)
+        → Outcome cause_of_evaluation (λ _. After p.objects (statement_of statement.now) env next
+        × AreAnswers p (W.used source.new) memo.new.remembered.items)
         (NeededBy p (AskedBy p (statement_of statement.now) env))
         (nodes_around W.holds W.used source.old source.new) result }
     ensures bounded { let env = lists_of sets.old.named.items in
-        (tell : Telling) (p : Publication) → IsPublication p → W.under source.old p → AreAllThere p.objects env
+        (tell : Telling) (p : Publication) → IsPublication p → W.under source.old p
+        → AreAnswers p (W.used source.old) memo.old.remembered.items → AreAllThere p.objects env
         → CanRun (statement_of statement.now) → HasNoClash p (W.used source.new)
         → IsBounded (WorkOf tell p (statement_of statement.now) env) meter.old.spent meter.new.spent }
     ensures spent { OnOk result (let env = lists_of sets.old.named.items in
-        (tell : Telling) (p : Publication) → IsPublication p → W.under source.old p → AreAllThere p.objects env
+        (tell : Telling) (p : Publication) → IsPublication p → W.under source.old p
+        → AreAnswers p (W.used source.old) memo.old.remembered.items → AreAllThere p.objects env
         → CanRun (statement_of statement.now) → HasNoClash p (W.used source.new)
         → IsSpent (WorkOf tell p (statement_of statement.now) env) meter.old.spent meter.new.spent) }
 {
@@ -66,8 +75,8 @@ pub(crate) fn run<'q, W: Source>(
             filters,
             into,
         } => {
-            let refs = select(alloc, source, meter, *kind, filters, sets)?;
-            sets.write(into.as_bytes(), refs)?;
+            let refs = select_once(alloc, source, meter, memo, *kind, filters, sets)?;
+            sets.write_shared(into.as_bytes(), refs)?;
             Ok(())
         }
         Stmt::Recurse { from, how, into } => {
@@ -85,16 +94,16 @@ pub(crate) fn run<'q, W: Source>(
         }
         Stmt::Union { parts, into } => {
             note_all_asked(&*source, parts);
-            let given = run_all(alloc, parts, sets, source, meter)?;
+            let given = run_all(alloc, parts, sets, source, meter, memo)?;
             let refs = RefSet::from_runs(given)?;
             sets.write(into.as_bytes(), refs)?;
             Ok(())
         }
         Stmt::Minus { left, right, into } => {
-            run(alloc, left, sets, source, meter)?;
+            run(alloc, left, sets, source, meter, memo)?;
             let first = shared_by(alloc, left, sets)?;
             meter.charge_run(&first)?;
-            run(alloc, right, sets, source, meter)?;
+            run(alloc, right, sets, source, meter, memo)?;
             let second = written_by(right, sets);
             meter.charge_run(second)?;
             let refs = first.difference(alloc, second)?;
@@ -107,42 +116,49 @@ pub(crate) fn run<'q, W: Source>(
 
 /// Runs statements in order, and gives what they wrote, one after the other.
 #[cycle(run)]
-fn run_all<'q, W: Source>(
+fn run_all<'s, 'q, W: Source>(
     alloc: Global,
-    parts: &[Stmt<'q>],
+    parts: &'s [Stmt<'q>],
     sets: &mut NamedSets<'q>,
     source: &mut W,
     meter: &mut Meter,
+    memo: &mut SelectMemo<'s, 'q>,
 ) -> Result<Vec<Ref>, EvalFault>
     requires asked { (r : Ref) → HaveIdOf (statements_of parts.now) r → W.may_be_absent source.old r }
     requires named { AllSetsGiven (W.gave source.old) (lists_of sets.old.named.items) }
+    requires recalled_named { AreAnswersGiven (W.gave source.old) memo.old.remembered.items }
     ensures later { W.later source.old source.new }
     ensures walked { OnOk result (W.walked source.old source.new) }
     ensures told { IfErr result (W.tells source.new) }
     ensures sets_named { OnOk result
         (AllSetsGiven (W.gave source.new) (lists_of sets.new.named.items)) }
     ensures named { IfOk result (λ given. AllGiven (W.gave source.new) given.items) }
+    ensures recalled_named { OnOk result (AreAnswersGiven (W.gave source.new) memo.new.remembered.items) }
     ensures answer { let env = lists_of sets.old.named.items in
         let next = lists_of sets.new.named.items in
-        (p : Publication) → IsPublication p → W.under source.old p → AreAllThere p.objects env
+        (p : Publication) → IsPublication p → W.under source.old p
+        → AreAnswers p (W.used source.old) memo.old.remembered.items → AreAllThere p.objects env
         → CanRunAll (statements_of parts.now)
         → Outcome cause_of_evaluation
-        (λ given. AfterAll p.objects (statements_of parts.now) env next given.items)
+        (λ given. AfterAll p.objects (statements_of parts.now) env next given.items
+        × AreAnswers p (W.used source.new) memo.new.remembered.items)
         (NeededBy p (AskedByAll p (statements_of parts.now) env))
         (nodes_around W.holds W.used source.old source.new) result }
     ensures bounded { let env = lists_of sets.old.named.items in
-        (tell : Telling) (p : Publication) → IsPublication p → W.under source.old p → AreAllThere p.objects env
+        (tell : Telling) (p : Publication) → IsPublication p → W.under source.old p
+        → AreAnswers p (W.used source.old) memo.old.remembered.items → AreAllThere p.objects env
         → CanRunAll (statements_of parts.now) → HasNoClash p (W.used source.new)
         → IsBounded (WorkOfAll tell p (statements_of parts.now) env) meter.old.spent meter.new.spent }
     ensures spent { OnOk result (let env = lists_of sets.old.named.items in
-        (tell : Telling) (p : Publication) → IsPublication p → W.under source.old p → AreAllThere p.objects env
+        (tell : Telling) (p : Publication) → IsPublication p → W.under source.old p
+        → AreAnswers p (W.used source.old) memo.old.remembered.items → AreAllThere p.objects env
         → CanRunAll (statements_of parts.now) → HasNoClash p (W.used source.new)
         → IsSpent (WorkOfAll tell p (statements_of parts.now) env) meter.old.spent meter.new.spent) }
 {
     let mut given = Vec::new(alloc);
     for part in parts {
         note_asked(&*source, part);
-        run(alloc, part, sets, source, meter)?;
+        run(alloc, part, sets, source, meter, memo)?;
         let written = written_by(part, sets);
         meter.charge_run(written)?;
         given.extend_from_slice(written.as_slice())?;

@@ -8,6 +8,7 @@ use Rattle.ql_syntax.specs.StatementViews.{statements_of}
 use Rattle.ref_sets.specs.NamedSets.{lists_of, nothing_named}
 use Rattle.ql_eval.specs.Work.{HasNoClash}
 use Rattle.ql_eval.specs.internal.Metering.{IsGoing}
+use Rattle.ql_eval.specs.internal.Recalling.{AreAnswers, AreAnswersGiven}
 use Rattle.ql_eval.specs.Written.{HasWritten}
 use Rattle.ql_eval.proofs.QueryLemmas.{HasAnswered}
 use Rattle.ql_eval.proofs.answering.answer_all.Given as goal
@@ -19,8 +20,9 @@ invariant-loop-statement g l = record {
   kept : g.T.Sink.kept l.sink ≡ g.T.Sink.kept l.fn.sink;
   wrote : (text : List ℕ) × HasWritten (g.T.Sink.stands l.fn.sink) (g.T.Sink.stands l.sink) text;
   named : AllSetsGiven (g.W.Source.gave l.source) (lists_of l.sets.named.items);
+  recalled_named : AreAnswersGiven (g.W.Source.gave l.source) l.memo.remembered.items;
   answer : (p : Publication) → IsPublication p → g.W.Source.under l.fn.source p → IsQuery (statements_of l.statements)
-      → HasAnswered (form_text l.form) p l.statements l.statement-index (lists_of l.sets.named.items) (g.T.Sink.stands l.fn.sink) (g.T.Sink.stands l.sink)
+      → HasAnswered (form_text l.form) p l.statements l.statement-index (lists_of l.sets.named.items) (AreAnswers p (g.W.Source.used l.source) l.memo.remembered.items) (g.T.Sink.stands l.fn.sink) (g.T.Sink.stands l.sink)
       (uses (g.W.Source.holds l.source) (g.W.Source.used l.fn.source) (g.W.Source.used l.source));
   going : (p : Publication) → IsPublication p → g.W.Source.under l.fn.source p → IsQuery (statements_of l.statements) → HasNoClash p (g.W.Source.used l.source)
       → IsGoing (form_text l.form) p (statements_of l.statements) nothing_named (statements_of (drop l.statement-index l.statements)) (lists_of l.sets.named.items) l.fn.meter.spent l.meter.spent;

@@ -20,10 +20,11 @@ use Rattle.ql_eval.specs.Work.{WorkOfOut}
 use Rattle.ql_eval.specs.internal.Metering.{IsBounded, IsSpent}
 use Rattle.ref_sets.proofs.shared.Results.{on_ok_as}
 use Rattle.ql_eval.proofs.MeterLemmas.{bounded_as, spent_as}
+use Rattle.ql_eval.proofs.RecallLemmas.{given_later, recalled_later}
 use Rattle.ql_eval.proofs.answering.answer_statement.Goals as goal
 
 pub returns-in-Print-clause-answer : goal.returns-in-Print-clause-answer
-returns-in-Print-clause-answer g c = λ p is under there top.
+returns-in-Print-clause-answer g c = λ p is under known there top.
     let env = lists_of c.args.sets.now.named.items in
     let out = c.in-Print.out in
     let refs : c.get.result.now ≡ lists_of c.args.sets.now.named.items c.in-Print.out.from =
@@ -35,6 +36,7 @@ returns-in-Print-clause-answer g c = λ p is under there top.
       subst (λ (s : Stmt). After p.objects (statement_of s) env env) (sym c.in-Print.is) refl,
       subst (λ (s : Stmt). HasWritten (g.T.Sink.stands c.args.sink.now) (g.T.Sink.stands c.print.new.sink) (told_by (form_text c.args.form) p.objects (statement_of s) env)) (sym c.in-Print.is)
           (subst (λ (rs : List Ref). HasWritten (g.T.Sink.stands c.args.sink.now) (g.T.Sink.stands c.print.new.sink) (printed_of_by (form_text c.args.form) p.objects rs out.mode out.limit)) refs so),
+      recalled_later p (g.W.Source.used c.args.source.now) (g.W.Source.used c.print.new.source) c.args.memo.now.remembered.items (λ x. g.met.W.Source.grows _ _ x c.print.ensures.later) known,
     ))
     (c.print.ensures.answer p is under (subst (λ (rs : List Ref). AreThere p.objects rs) (sym refs) (there out.from)))
 
@@ -44,23 +46,24 @@ returns-in_default g c = record {
   walked = c.run.ensures.walked;
   told = c.run.ensures.told;
   named = c.run.ensures.named;
+  recalled_named = c.run.ensures.recalled_named;
   kept = refl;
   wrote = ([], written_none);
-  answer = λ p is under there top.
+  answer = λ p is under known there top.
       let statement = statement_of c.args.statement.now in
       let env = lists_of c.args.sets.now.named.items in
       let can : CanRun statement = elim (top_lawful statement top) [ inl can ↦ can | inr out ↦ absurd (no_out c.args.statement.now c.in_default.not-Print out) ] in
       outcome_same (λ x needs. needs) (λ value so x needs. needs)
-      (λ value so. (so, subst (λ (text : List ℕ). HasWritten (g.T.Sink.stands c.args.sink.now) (g.T.Sink.stands c.args.sink.now) text) (sym (told_nothing (form_text c.args.form) p.objects statement env can)) written_none))
-      (c.run.ensures.answer p is under there can);
-  bounded = λ p is under there top clear.
+      (λ value so. (so.0, subst (λ (text : List ℕ). HasWritten (g.T.Sink.stands c.args.sink.now) (g.T.Sink.stands c.args.sink.now) text) (sym (told_nothing (form_text c.args.form) p.objects statement env can)) written_none, so.1))
+      (c.run.ensures.answer p is under known there can);
+  bounded = λ p is under known there top clear.
       let statement = statement_of c.args.statement.now in
       let can : CanRun statement = elim (top_lawful statement top) [ inl can ↦ can | inr out ↦ absurd (no_out c.args.statement.now c.in_default.not-Print out) ] in
-      c.run.ensures.bounded (form_text c.args.form) p is under there can clear;
-  spent = on_ok_as c.run.result (λ spent p is under there top clear.
+      c.run.ensures.bounded (form_text c.args.form) p is under known there can clear;
+  spent = on_ok_as c.run.result (λ spent p is under known there top clear.
       let statement = statement_of c.args.statement.now in
       let can : CanRun statement = elim (top_lawful statement top) [ inl can ↦ can | inr out ↦ absurd (no_out c.args.statement.now c.in_default.not-Print out) ] in
-      spent (form_text c.args.form) p is under there can clear) c.run.ensures.spent;
+      spent (form_text c.args.form) p is under known there can clear) c.run.ensures.spent;
 }
 
 pub print-requires : goal.print-requires
@@ -70,7 +73,7 @@ pub returns-in-Print-clause-named : goal.returns-in-Print-clause-named
 returns-in-Print-clause-named g c = always_ok c.print.result (sets_later (lists_of c.args.sets.now.named.items) (λ r. g.met.W.Source.same_gave _ _ r c.print.ensures.later) c.requires.named)
 
 pub returns-in-Print-clause-bounded : goal.returns-in-Print-clause-bounded
-returns-in-Print-clause-bounded g c = λ p is under there top clear.
+returns-in-Print-clause-bounded g c = λ p is under known there top clear.
     let env = lists_of c.args.sets.now.named.items in
     let out = c.in-Print.out in
     let tell = form_text c.args.form in
@@ -80,7 +83,7 @@ returns-in-Print-clause-bounded g c = λ p is under there top clear.
     (c.print.ensures.bounded p is under (subst (λ (rs : List Ref). AreThere p.objects rs) (sym refs) (there out.from)) clear))
 
 pub returns-in-Print-clause-spent : goal.returns-in-Print-clause-spent
-returns-in-Print-clause-spent g c = on_ok_as c.print.result (λ spent. λ p is under there top clear.
+returns-in-Print-clause-spent g c = on_ok_as c.print.result (λ spent. λ p is under known there top clear.
     let env = lists_of c.args.sets.now.named.items in
     let out = c.in-Print.out in
     let tell = form_text c.args.form in
@@ -88,3 +91,6 @@ returns-in-Print-clause-spent g c = on_ok_as c.print.result (λ spent. λ p is u
     spent_as (ap statement_of c.in-Print.is) tell p env _ _
     (subst (λ (l : List Ref). IsSpent (WorkOfOut tell p l out.mode out.limit) c.args.meter.now.spent c.print.new.meter.spent) refs
     (spent p is under (subst (λ (rs : List Ref). AreThere p.objects rs) (sym refs) (there out.from)) clear))) c.print.ensures.spent
+
+pub returns-in-Print-clause-recalled_named : goal.returns-in-Print-clause-recalled_named
+returns-in-Print-clause-recalled_named g c = always_ok c.print.result (given_later _ _ c.args.memo.now.remembered.items (λ r. g.met.W.Source.same_gave _ _ r c.print.ensures.later) c.requires.recalled_named)

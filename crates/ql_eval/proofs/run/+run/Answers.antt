@@ -10,16 +10,18 @@ use Rattle.ql_syntax.specs.declared.statement.Stmt.{Stmt}
 use Rattle.ql_meaning.proofs.shared.Running.{after_next, minus_after}
 use Rattle.ql_meaning.specs.Meanings.{AfterAll, given_by}
 use Rattle.std.proofs.lemmas.List.{take_all}
-use Rattle.ql_meaning.specs.Values.{IsReached, IsRefOf}
+use Rattle.ql_meaning.specs.Values.{IsReached, IsRefOf, IsSelected}
 use Rattle.ref_sets.specs.NamedSets.{put, lists_of}
 use Rattle.ref_sets.specs.Sets.{IsSetOf}
-use Rattle.ql_eval.specs.Asks.{AskedByAll, AskedByRecursion}
+use Rattle.ql_eval.specs.Asks.{AskedByAll, AskedByRecursion, AskedBySelect}
 use Rattle.ql_eval.specs.Questions.{NeededBy}
 use Rattle.ql_eval.specs.internal.Lawful.{CanRun, CanRunAll}
 use Rattle.ql_eval.specs.internal.Links.{AreThere}
-use Rattle.ql_eval.proofs.StatementLemmas.{RanAllWell, RanWell, SelectedWell, after_all_there, after_as, after_there, as_needs, can_run_as, left_needs, minus_splits, needs_as, one_lawful, part_all, part_needs, parts_all, parts_front, parts_split, right_needs}
+use Rattle.ql_eval.proofs.StatementLemmas.{RanAllWell, RanWell, after_all_there, after_as, after_there, as_needs, can_run_as, left_needs, minus_splits, needs_as, one_lawful, part_all, part_needs, parts_all, parts_front, parts_split, right_needs}
 use Rattle.ql_eval.proofs.GivenLemmas.{all_appended, all_later, part_given, put_given, sets_later, sorted_given, written_given}
 use Rattle.ql_eval.specs.internal.Giving.{AllGiven}
+use Rattle.ql_eval.specs.internal.Recalling.{AreAnswers}
+use Rattle.ql_eval.proofs.RecallLemmas.{given_later, recalled_later}
 use Rattle.ql_eval.specs.Work.{WorkOf, WorkOfAll, WorkOfSelect, step_cost}
 use Rattle.ql_eval.specs.internal.Metering.{IsBounded, IsCounted, IsSpent}
 use Rattle.ql_eval.proofs.MeterLemmas.{bounded_as, clear_before, found_well, going_at, going_bounded, going_next, going_stops, gone_all, nothing_spent, row_bounded, row_spent, row_stops, spent_as, steps_bounded, steps_spent, still}
@@ -29,29 +31,37 @@ use Rattle.ql_eval.proofs.AbsenceLemmas.{part_asked, union_asked}
 use Rattle.ql_eval.proofs.run.+run.Goals as goal
 
 pub run-returns-in_err-refs-in-Select-clause-answer : goal.run-returns-in_err-refs-in-Select-clause-answer
-run-returns-in_err-refs-in-Select-clause-answer g t c = λ p is under there can.
+run-returns-in_err-refs-in-Select-clause-answer g t c = λ p is under known there can.
     let env = lists_of c.args.sets.now.named.items in
     let kind = c.in-Select.kind in
     let same = ap statement_of c.in-Select.is in
     let lawful = subst (λ (fs : List Filter). AllByRecursion (Allows kind) (filters_of fs)) (sym c.deref.ensures.value) (can_run_as same can) in
-    outcome_stops _ c.from_residual.ensures.1 refl (needs_as same p env)
-    (subst (λ (fs : List Filter). SelectedWell p env kind (filters_of fs) (uses (g.W.Source.holds c.select.new.source) (g.W.Source.used c.args.source.now) (g.W.Source.used c.select.new.source)) (Err c.in_err-refs-in-Select.field-0.0)) c.deref.ensures.value
-    (c.in_err-refs-in-Select.ensures.answer p is under there lawful))
+    outcome_stops _ c.from_residual.ensures.1 refl
+    (λ x needs. needs_as same p env x (subst (λ (fs : List Filter). NeededBy p (AskedBySelect p env kind (filters_of fs)) x) c.deref.ensures.value needs))
+    (c.in_err-refs-in-Select.ensures.answer p is under known there lawful)
 
-pub run-returns-in_ok-write-in-Select-clause-answer : goal.run-returns-in_ok-write-in-Select-clause-answer
-run-returns-in_ok-write-in-Select-clause-answer g t c = λ p is under there can.
+pub run-returns-in_ok-write_shared-in-Select-clause-answer : goal.run-returns-in_ok-write_shared-in-Select-clause-answer
+run-returns-in_ok-write_shared-in-Select-clause-answer g t c = λ p is under known there can.
     let env = lists_of c.args.sets.now.named.items in
     let kind = c.in-Select.kind in
     let same = ap statement_of c.in-Select.is in
-    let refs = c.in_ok-refs-in-Select.refs in
-    let lawful = subst (λ (fs : List Filter). AllByRecursion (Allows kind) (filters_of fs)) (sym c.deref.ensures.value) (can_run_as same can) in
-    outcome_as (needs_as same p env) (λ so. as_needs same p env)
-    (λ so. after_as same p.objects _ _ (refs, so, c.in_ok-write-in-Select.ensures ∙ ap (λ (name : List ℕ). put name refs env) c.as_bytes.ensures))
-    (subst (λ (fs : List Filter). SelectedWell p env kind (filters_of fs) (uses (g.W.Source.holds c.select.new.source) (g.W.Source.used c.args.source.now) (g.W.Source.used c.select.new.source)) (Ok refs)) c.deref.ensures.value
-    (c.in_ok-refs-in-Select.ensures.answer p is under there lawful))
+    let refs = c.in_ok-refs-in-Select.refs.value in
+    let filters = c.deref.ensures.value in
+    let lawful = subst (λ (fs : List Filter). AllByRecursion (Allows kind) (filters_of fs)) (sym filters) (can_run_as same can) in
+    outcome_as (λ x needs. needs_as same p env x (subst (λ (fs : List Filter). NeededBy p (AskedBySelect p env kind (filters_of fs)) x) filters needs))
+    (λ so x needs. subst (λ (fs : List Filter). NeededBy p (AskedBySelect p env kind (filters_of fs)) x) (sym filters) (as_needs same p env x needs))
+    (λ so. (
+      after_as same p.objects _ _ (
+        refs,
+        subst (λ (fs : List Filter). IsSetOf refs (IsRefOf p.objects (IsSelected p.objects env kind (filters_of fs)))) filters so.0,
+        c.in_ok-write_shared-in-Select.ensures ∙ ap (λ (name : List ℕ). put name refs env) c.as_bytes.ensures,
+      ),
+      so.1,
+    ))
+    (c.in_ok-refs-in-Select.ensures.answer p is under known there lawful)
 
 pub run-returns-in_err-refs-in-Recurse-clause-answer : goal.run-returns-in_err-refs-in-Recurse-clause-answer
-run-returns-in_err-refs-in-Recurse-clause-answer g t c = λ p is under there can.
+run-returns-in_err-refs-in-Recurse-clause-answer g t c = λ p is under known there can.
     let env = lists_of c.args.sets.now.named.items in
     let set = c.in_ok-set-in-Recurse.ensures ∙ ap env c.as_bytes-in-Recurse.ensures in
     outcome_stops _ c.from_residual-in_err-refs-in-Recurse.ensures.1 refl
@@ -59,7 +69,7 @@ run-returns-in_err-refs-in-Recurse-clause-answer g t c = λ p is under there can
     (c.in_err-refs-in-Recurse.ensures.answer p is under (subst (λ (l : List Ref). AreThere p.objects l) (sym set) (there c.in-Recurse.«from»)))
 
 pub run-returns-in_ok-write_shared-in-Recurse-clause-answer : goal.run-returns-in_ok-write_shared-in-Recurse-clause-answer
-run-returns-in_ok-write_shared-in-Recurse-clause-answer g t c = λ p is under there can.
+run-returns-in_ok-write_shared-in-Recurse-clause-answer g t c = λ p is under known there can.
     let env = lists_of c.args.sets.now.named.items in
     let same = ap statement_of c.in-Recurse.is in
     let how = c.in-Recurse.how in
@@ -67,34 +77,37 @@ run-returns-in_ok-write_shared-in-Recurse-clause-answer g t c = λ p is under th
     let set = c.in_ok-set-in-Recurse.ensures ∙ ap env c.as_bytes-in-Recurse.ensures in
     outcome_as (λ x needs. needs_as same p env x (subst (λ (l : List Ref). NeededBy p (AskedByRecursion p.objects how l) x) set needs))
     (λ so x needs. subst (λ (l : List Ref). NeededBy p (AskedByRecursion p.objects how l) x) (sym set) (as_needs same p env x needs))
-    (λ so. after_as same p.objects _ _ (
-      refs,
-      subst (λ (l : List Ref). IsSetOf refs (IsRefOf p.objects (IsReached p.objects how l))) set so,
-      c.in_ok-write_shared-in-Recurse.ensures ∙ ap (λ (name : List ℕ). put name refs env) c.as_bytes-in-Recurse-2.ensures,
+    (λ so. (
+      after_as same p.objects _ _ (
+        refs,
+        subst (λ (l : List Ref). IsSetOf refs (IsRefOf p.objects (IsReached p.objects how l))) set so,
+        c.in_ok-write_shared-in-Recurse.ensures ∙ ap (λ (name : List ℕ). put name refs env) c.as_bytes-in-Recurse-2.ensures,
+      ),
+      recalled_later p (g.W.Source.used c.args.source.now) (g.W.Source.used c.recurse_once.new.source) c.args.memo.now.remembered.items (λ x. g.met.W.Source.grows _ _ x c.recurse_once.ensures.later) known,
     ))
     (c.in_ok-refs-in-Recurse.ensures.answer p is under (subst (λ (l : List Ref). AreThere p.objects l) (sym set) (there c.in-Recurse.«from»)))
 
 pub run-returns-in_ok-write_shared-in-Item-clause-answer : goal.run-returns-in_ok-write_shared-in-Item-clause-answer
-run-returns-in_ok-write_shared-in-Item-clause-answer g t c = λ p is under there can.
+run-returns-in_ok-write_shared-in-Item-clause-answer g t c = λ p is under known there can.
     let env = lists_of c.args.sets.now.named.items in
     let same = ap statement_of c.in-Item.is in
     let refs = c.in_ok-refs-in-Item.refs.value in
     let set = c.in_ok-refs-in-Item.ensures ∙ ap env c.as_bytes-in-Item.ensures in
     outcome_starts
-    (after_as same p.objects _ _ (c.in_ok-write_shared-in-Item.ensures ∙ ap (λ (name : List ℕ). put name refs env) c.as_bytes-in-Item-2.ensures ∙ ap (λ (l : List Ref). put c.in-Item.into l env) set))
+    (after_as same p.objects _ _ (c.in_ok-write_shared-in-Item.ensures ∙ ap (λ (name : List ℕ). put name refs env) c.as_bytes-in-Item-2.ensures ∙ ap (λ (l : List Ref). put c.in-Item.into l env) set), known)
     (λ x needs. (as_needs same p env x needs).asked)
 
 pub run-returns-in_err-given-in-Union-clause-answer : goal.run-returns-in_err-given-in-Union-clause-answer
-run-returns-in_err-given-in-Union-clause-answer g t c = λ p is under there can.
+run-returns-in_err-given-in-Union-clause-answer g t c = λ p is under known there can.
     let env = lists_of c.args.sets.now.named.items in
     let same = ap statement_of c.in-Union.is ∙ union_is c.in-Union.parts c.in-Union.into in
     let parts = subst (λ (ps : List Stmt). CanRunAll (statements_of ps)) (sym c.deref-in-Union-2.ensures.value) (can_run_as same can) in
     outcome_stops _ c.from_residual-in_err-given-in-Union.ensures.1 refl (needs_as same p env)
-    (subst (λ (ps : List Stmt). RanAllWell p (statements_of ps) env (lists_of c.run_all.new.sets.named.items) (uses (g.W.Source.holds c.run_all.new.source) (g.W.Source.used c.args.source.now) (g.W.Source.used c.run_all.new.source)) (Err c.in_err-given-in-Union.field-0.0)) c.deref-in-Union-2.ensures.value
-    (c.in_err-given-in-Union.ensures.answer p is under there parts))
+    (subst (λ (ps : List Stmt). RanAllWell p (statements_of ps) env (lists_of c.run_all.new.sets.named.items) (AreAnswers p (g.W.Source.used c.run_all.new.source) c.run_all.new.memo.remembered.items) (uses (g.W.Source.holds c.run_all.new.source) (g.W.Source.used c.args.source.now) (g.W.Source.used c.run_all.new.source)) (Err c.in_err-given-in-Union.field-0.0)) c.deref-in-Union-2.ensures.value
+    (c.in_err-given-in-Union.ensures.answer p is under known there parts))
 
 pub run-returns-in_ok-write-in-Union-clause-answer : goal.run-returns-in_ok-write-in-Union-clause-answer
-run-returns-in_ok-write-in-Union-clause-answer g t c = λ p is under there can.
+run-returns-in_ok-write-in-Union-clause-answer g t c = λ p is under known there can.
     let env = lists_of c.args.sets.now.named.items in
     let mid = lists_of c.run_all.new.sets.named.items in
     let same = ap statement_of c.in-Union.is ∙ union_is c.in-Union.parts c.in-Union.into in
@@ -102,12 +115,12 @@ run-returns-in_ok-write-in-Union-clause-answer g t c = λ p is under there can.
     let given = c.in_ok-given-in-Union.given in
     let refs = c.in_ok-refs-in-Union.refs in
     outcome_as (needs_as same p env) (λ so. as_needs same p env)
-    (λ so. after_as same p.objects _ _ (mid, given.items, so, (refs, c.in_ok-refs-in-Union.ensures, c.in_ok-write-in-Union.ensures ∙ ap (λ (name : List ℕ). put name refs mid) c.as_bytes-in-Union.ensures)))
-    (subst (λ (ps : List Stmt). RanAllWell p (statements_of ps) env mid (uses (g.W.Source.holds c.run_all.new.source) (g.W.Source.used c.args.source.now) (g.W.Source.used c.run_all.new.source)) (Ok given)) c.deref-in-Union-2.ensures.value
-    (c.in_ok-given-in-Union.ensures.answer p is under there parts))
+    (λ so. (after_as same p.objects _ _ (mid, given.items, so.0, (refs, c.in_ok-refs-in-Union.ensures, c.in_ok-write-in-Union.ensures ∙ ap (λ (name : List ℕ). put name refs mid) c.as_bytes-in-Union.ensures)), so.1))
+    (subst (λ (ps : List Stmt). RanAllWell p (statements_of ps) env mid (AreAnswers p (g.W.Source.used c.run_all.new.source) c.run_all.new.memo.remembered.items) (uses (g.W.Source.holds c.run_all.new.source) (g.W.Source.used c.args.source.now) (g.W.Source.used c.run_all.new.source)) (Ok given)) c.deref-in-Union-2.ensures.value
+    (c.in_ok-given-in-Union.ensures.answer p is under known there parts))
 
 pub run-returns-in_err-run-in-Minus-2-clause-answer : goal.run-returns-in_err-run-in-Minus-2-clause-answer
-run-returns-in_err-run-in-Minus-2-clause-answer g t c = λ p is under there can.
+run-returns-in_err-run-in-Minus-2-clause-answer g t c = λ p is under known there can.
     let env = lists_of c.args.sets.now.named.items in
     let mid = lists_of c.run.new.sets.named.items in
     let left = c.in-Minus.left.value in
@@ -118,13 +131,13 @@ run-returns-in_err-run-in-Minus-2-clause-answer g t c = λ p is under there can.
     let second = subst (λ (s : Stmt). CanRun (statement_of s)) (sym c.deref-in-Minus-4.ensures) both.1 in
     outcome_then_stops _ c.from_residual-in_err-run-in-Minus-2.ensures.1 refl (λ x. g.met.W.Source.grows _ _ x c.run-in-Minus.ensures.later)
     (λ x needs. needs_as same p env x (left_needs p (statement_of left) (statement_of right) c.in-Minus.into env x needs))
-    (λ so x needs. needs_as same p env x (right_needs p (statement_of left) (statement_of right) c.in-Minus.into env mid so x needs))
-    (subst (λ (s : Stmt). RanWell p (statement_of s) env mid (uses (g.W.Source.holds c.run.new.source) (g.W.Source.used c.args.source.now) (g.W.Source.used c.run.new.source)) (Ok c.in_ok-run-in-Minus.field-0)) c.deref-in-Minus.ensures (c.in_ok-run-in-Minus.ensures.answer p is under there first))
-    (λ so. subst (λ (s : Stmt). RanWell p (statement_of s) mid (lists_of c.run-in-Minus.new.sets.named.items) (uses (g.W.Source.holds c.run-in-Minus.new.source) (g.W.Source.used c.run.new.source) (g.W.Source.used c.run-in-Minus.new.source)) (Err c.in_err-run-in-Minus-2.field-0.0)) c.deref-in-Minus-4.ensures
-    (c.in_err-run-in-Minus-2.ensures.answer p is (g.met.W.Source.same_under _ _ p c.in_ok-run-in-Minus.ensures.later under) (after_there p.objects (statement_of left) env mid so there) second))
+    (λ so x needs. needs_as same p env x (right_needs p (statement_of left) (statement_of right) c.in-Minus.into env mid so.0 x needs))
+    (subst (λ (s : Stmt). RanWell p (statement_of s) env mid (AreAnswers p (g.W.Source.used c.run.new.source) c.run.new.memo.remembered.items) (uses (g.W.Source.holds c.run.new.source) (g.W.Source.used c.args.source.now) (g.W.Source.used c.run.new.source)) (Ok c.in_ok-run-in-Minus.field-0)) c.deref-in-Minus.ensures (c.in_ok-run-in-Minus.ensures.answer p is under known there first))
+    (λ so. subst (λ (s : Stmt). RanWell p (statement_of s) mid (lists_of c.run-in-Minus.new.sets.named.items) (AreAnswers p (g.W.Source.used c.run-in-Minus.new.source) c.run-in-Minus.new.memo.remembered.items) (uses (g.W.Source.holds c.run-in-Minus.new.source) (g.W.Source.used c.run.new.source) (g.W.Source.used c.run-in-Minus.new.source)) (Err c.in_err-run-in-Minus-2.field-0.0)) c.deref-in-Minus-4.ensures
+    (c.in_err-run-in-Minus-2.ensures.answer p is (g.met.W.Source.same_under _ _ p c.in_ok-run-in-Minus.ensures.later under) so.1 (after_there p.objects (statement_of left) env mid so.0 there) second))
 
 pub run-returns-in_ok-write-in-Minus-clause-answer : goal.run-returns-in_ok-write-in-Minus-clause-answer
-run-returns-in_ok-write-in-Minus-clause-answer g t c = λ p is under there can.
+run-returns-in_ok-write-in-Minus-clause-answer g t c = λ p is under known there can.
     let env = lists_of c.args.sets.now.named.items in
     let mid = lists_of c.run.new.sets.named.items in
     let end = lists_of c.run-in-Minus.new.sets.named.items in
@@ -142,28 +155,31 @@ run-returns-in_ok-write-in-Minus-clause-answer g t c = λ p is under there can.
     let second_is = c.written_by-second.ensures ∙ ap (λ (s : Stmt). given_by (statement_of s) end) c.deref-in-Minus-5.ensures in
     outcome_then (λ x. g.met.W.Source.grows _ _ x c.run-in-Minus.ensures.later)
     (λ x needs. needs_as same p env x (left_needs p (statement_of left) (statement_of right) c.in-Minus.into env x needs))
-    (λ so x needs. needs_as same p env x (right_needs p (statement_of left) (statement_of right) c.in-Minus.into env mid so x needs))
-    (λ so two x needs. minus_splits p (statement_of left) (statement_of right) c.in-Minus.into env mid so x (as_needs same p env x needs))
-    (λ so two. after_as same p.objects _ _ (minus_after p.objects left right c.in-Minus.into env mid end later firsts _ refs so first_is two second_is c.in_ok-refs-in-Minus.ensures
-    (c.in_ok-write-in-Minus.ensures ∙ ap (λ (name : List ℕ). put name refs end) c.as_bytes-in-Minus.ensures)))
-    (subst (λ (s : Stmt). RanWell p (statement_of s) env mid (uses (g.W.Source.holds c.run.new.source) (g.W.Source.used c.args.source.now) (g.W.Source.used c.run.new.source)) (Ok c.in_ok-run-in-Minus.field-0)) c.deref-in-Minus.ensures (c.in_ok-run-in-Minus.ensures.answer p is under there first))
-    (λ so. subst (λ (s : Stmt). RanWell p (statement_of s) mid end (uses (g.W.Source.holds c.run-in-Minus.new.source) (g.W.Source.used c.run.new.source) (g.W.Source.used c.run-in-Minus.new.source)) (Ok c.in_ok-run-in-Minus-2.field-0)) c.deref-in-Minus-4.ensures
-    (c.in_ok-run-in-Minus-2.ensures.answer p is (g.met.W.Source.same_under _ _ p c.in_ok-run-in-Minus.ensures.later under) (after_there p.objects (statement_of left) env mid so there) second))
+    (λ so x needs. needs_as same p env x (right_needs p (statement_of left) (statement_of right) c.in-Minus.into env mid so.0 x needs))
+    (λ so two x needs. minus_splits p (statement_of left) (statement_of right) c.in-Minus.into env mid so.0 x (as_needs same p env x needs))
+    (λ so two. (
+      after_as same p.objects _ _ (minus_after p.objects left right c.in-Minus.into env mid end later firsts _ refs so.0 first_is two.0 second_is c.in_ok-refs-in-Minus.ensures
+          (c.in_ok-write-in-Minus.ensures ∙ ap (λ (name : List ℕ). put name refs end) c.as_bytes-in-Minus.ensures)),
+      two.1,
+    ))
+    (subst (λ (s : Stmt). RanWell p (statement_of s) env mid (AreAnswers p (g.W.Source.used c.run.new.source) c.run.new.memo.remembered.items) (uses (g.W.Source.holds c.run.new.source) (g.W.Source.used c.args.source.now) (g.W.Source.used c.run.new.source)) (Ok c.in_ok-run-in-Minus.field-0)) c.deref-in-Minus.ensures (c.in_ok-run-in-Minus.ensures.answer p is under known there first))
+    (λ so. subst (λ (s : Stmt). RanWell p (statement_of s) mid end (AreAnswers p (g.W.Source.used c.run-in-Minus.new.source) c.run-in-Minus.new.memo.remembered.items) (uses (g.W.Source.holds c.run-in-Minus.new.source) (g.W.Source.used c.run.new.source) (g.W.Source.used c.run-in-Minus.new.source)) (Ok c.in_ok-run-in-Minus-2.field-0)) c.deref-in-Minus-4.ensures
+    (c.in_ok-run-in-Minus-2.ensures.answer p is (g.met.W.Source.same_under _ _ p c.in_ok-run-in-Minus.ensures.later under) so.1 (after_there p.objects (statement_of left) env mid so.0 there) second))
 
 pub run-returns-in-Print-clause-answer : goal.run-returns-in-Print-clause-answer
-run-returns-in-Print-clause-answer g t c = λ p is under there can. absurd (can_run_as (ap statement_of c.in-Print.is) can)
+run-returns-in-Print-clause-answer g t c = λ p is under known there can. absurd (can_run_as (ap statement_of c.in-Print.is) can)
 
 pub run_all-returns-in_err-run-clause-answer : goal.run_all-returns-in_err-run-clause-answer
-run_all-returns-in_err-run-clause-answer g t c = λ p is under there can.
+run_all-returns-in_err-run-clause-answer g t c = λ p is under known there can.
     let env = lists_of c.args.sets.now.named.items in
     let mid = lists_of c.loop-part.sets.named.items in
     let parts = c.args.parts.now in
     let k = c.loop-part.part-index in
     let part = c.part-item.result in
     outcome_then_stops _ c.from_residual.ensures.1 refl (λ x. g.met.W.Source.grows _ _ x c.run.ensures.later) (parts_all p env parts k)
-    (λ so. part_all p env parts k part c.loop-part-test.true c.part-item.is mid c.loop-part.given.items so)
-    (c.loop-part.invariant.answer p is under there can)
-    (λ so. c.in_err-run.ensures.answer p is (g.met.W.Source.same_under _ _ p c.loop-part.invariant.later under) (after_all_there p.objects (statements_of (take k parts)) env mid c.loop-part.given.items so there).0
+    (λ so. part_all p env parts k part c.loop-part-test.true c.part-item.is mid c.loop-part.given.items so.0)
+    (c.loop-part.invariant.answer p is under known there can)
+    (λ so. c.in_err-run.ensures.answer p is (g.met.W.Source.same_under _ _ p c.loop-part.invariant.later under) so.1 (after_all_there p.objects (statements_of (take k parts)) env mid c.loop-part.given.items so.0 there).0
     (one_lawful parts k part c.loop-part-test.true c.part-item.is can))
 
 pub run_all-loop-part-preserved : goal.run_all-loop-part-preserved
@@ -171,10 +187,11 @@ run_all-loop-part-preserved g t c = record {
   later = g.met.W.Source.chained _ _ _ c.loop-part.invariant.later c.run.ensures.later;
   walked = g.met.W.Source.more_walks _ _ _ c.loop-part.invariant.later c.run.ensures.later c.loop-part.invariant.walked c.in_ok-run.ensures.walked;
   sets_named = c.in_ok-run.ensures.named;
+  recalled_named = c.in_ok-run.ensures.recalled_named;
   named = all_appended c.loop-part.given.items c.written_by-written.result.now c.extend_from_slice.new.self.items (c.in_ok-extend_from_slice.ensures.items ∙ ap (λ (l : List Ref). c.loop-part.given.items ++ l) c.as_slice.ensures.value)
       (all_later c.loop-part.given.items (λ r. g.met.W.Source.same_gave _ _ r c.run.ensures.later) c.loop-part.invariant.named)
       (subst (λ (l : List Ref). AllGiven (g.W.Source.gave c.run.new.source) l) (sym c.written_by-written.ensures) (written_given (statement_of c.part-item.result) (lists_of c.run.new.sets.named.items) c.in_ok-run.ensures.named));
-  answer = λ p is under there can.
+  answer = λ p is under known there can.
       let env = lists_of c.args.sets.now.named.items in
       let mid = lists_of c.loop-part.sets.named.items in
       let parts = c.args.parts.now in
@@ -182,32 +199,35 @@ run_all-loop-part-preserved g t c = record {
       let part = c.part-item.result in
       let given = c.loop-part.given.items in
       outcome_then (λ x. g.met.W.Source.grows _ _ x c.run.ensures.later) (parts_front p env parts k part c.loop-part-test.true c.part-item.is)
-      (λ so. part_needs p env parts k part c.loop-part-test.true c.part-item.is mid given so) (λ so one. parts_split p env parts k part c.loop-part-test.true c.part-item.is mid given so)
-      (λ so one. after_next p.objects parts k part c.loop-part-test.true c.part-item.is env mid (lists_of c.run.new.sets.named.items) given _ so one
-      (c.in_ok-extend_from_slice.ensures.items ∙ ap (λ (l : List Ref). given ++ l) (c.as_slice.ensures.value ∙ c.written_by-written.ensures)))
-      (c.loop-part.invariant.answer p is under there can)
-      (λ so. c.in_ok-run.ensures.answer p is (g.met.W.Source.same_under _ _ p c.loop-part.invariant.later under) (after_all_there p.objects (statements_of (take k parts)) env mid given so there).0
+      (λ so. part_needs p env parts k part c.loop-part-test.true c.part-item.is mid given so.0) (λ so one. parts_split p env parts k part c.loop-part-test.true c.part-item.is mid given so.0)
+      (λ so one. (
+        after_next p.objects parts k part c.loop-part-test.true c.part-item.is env mid (lists_of c.run.new.sets.named.items) given _ so.0 one.0
+            (c.in_ok-extend_from_slice.ensures.items ∙ ap (λ (l : List Ref). given ++ l) (c.as_slice.ensures.value ∙ c.written_by-written.ensures)),
+        one.1,
+      ))
+      (c.loop-part.invariant.answer p is under known there can)
+      (λ so. c.in_ok-run.ensures.answer p is (g.met.W.Source.same_under _ _ p c.loop-part.invariant.later under) so.1 (after_all_there p.objects (statements_of (take k parts)) env mid given so.0 there).0
       (one_lawful parts k part c.loop-part-test.true c.part-item.is can));
-  going = λ tell p is under there can clear.
+  going = λ tell p is under known there can clear.
       let env = lists_of c.args.sets.now.named.items in
       let mid = lists_of c.loop-part.sets.named.items in
       let parts = c.args.parts.now in
       let k = c.loop-part.part-index in
       let part = c.part-item.result in
       let early = clear_before (λ x. g.met.W.Source.grows _ _ x c.run.ensures.later) clear in
-      let going = going_at tell p parts env k mid _ _ part c.loop-part-test.true c.part-item.is (c.loop-part.invariant.going tell p is under there can early) in
-      let so = found_well (λ x used. used) early (c.loop-part.invariant.answer p is under there can) in
-      let there_now = (after_all_there p.objects (statements_of (take k parts)) env mid c.loop-part.given.items so there).0 in
+      let going = going_at tell p parts env k mid _ _ part c.loop-part-test.true c.part-item.is (c.loop-part.invariant.going tell p is under known there can early) in
+      let so = found_well (λ x used. used) early (c.loop-part.invariant.answer p is under known there can) in
+      let there_now = (after_all_there p.objects (statements_of (take k parts)) env mid c.loop-part.given.items so.0 there).0 in
       let under_now = g.met.W.Source.same_under _ _ p c.loop-part.invariant.later under in
       let can_now = one_lawful parts k part c.loop-part-test.true c.part-item.is can in
-      let first = c.run.ensures.bounded tell p is under_now there_now can_now clear in
-      let after = found_well (λ x used. used) clear (c.in_ok-run.ensures.answer p is under_now there_now can_now) in
-      let next = going_next tell p (statements_of parts) env (statement_of part) (statements_of (drop (k + 1) parts)) mid _ _ _ going (lists_of c.run.new.sets.named.items) c.written_by-written.result.now _ after c.written_by-written.ensures c.charge_run.ensures first (c.in_ok-run.ensures.spent tell p is under_now there_now can_now clear) in
+      let first = c.run.ensures.bounded tell p is under_now so.1 there_now can_now clear in
+      let after = found_well (λ x used. used) clear (c.in_ok-run.ensures.answer p is under_now so.1 there_now can_now) in
+      let next = going_next tell p (statements_of parts) env (statement_of part) (statements_of (drop (k + 1) parts)) mid _ _ _ going (lists_of c.run.new.sets.named.items) c.written_by-written.result.now _ after.0 c.written_by-written.ensures c.charge_run.ensures first (c.in_ok-run.ensures.spent tell p is under_now so.1 there_now can_now clear) in
       next;
 }
 
-pub run-returns-in_ok-write-in-Select-clause-named : goal.run-returns-in_ok-write-in-Select-clause-named
-run-returns-in_ok-write-in-Select-clause-named g t c = put_given _ c.in_ok-refs-in-Select.refs (lists_of c.args.sets.now.named.items) _ c.in_ok-write-in-Select.ensures (c.in_ok-refs-in-Select.ensures.named) (sets_later (lists_of c.args.sets.now.named.items) (λ r. g.met.W.Source.same_gave _ _ r c.select.ensures.later) c.requires.named)
+pub run-returns-in_ok-write_shared-in-Select-clause-named : goal.run-returns-in_ok-write_shared-in-Select-clause-named
+run-returns-in_ok-write_shared-in-Select-clause-named g t c = put_given _ c.in_ok-refs-in-Select.refs.value (lists_of c.args.sets.now.named.items) _ c.in_ok-write_shared-in-Select.ensures (c.in_ok-refs-in-Select.ensures.named) (sets_later (lists_of c.args.sets.now.named.items) (λ r. g.met.W.Source.same_gave _ _ r c.select_once.ensures.later) c.requires.named)
 
 pub run-recurse_once-requires : goal.run-recurse_once-requires
 run-recurse_once-requires g t c = subst (λ (l : List Ref). AllGiven (g.W.Source.gave c.args.source.now) l) (sym c.in_ok-set-in-Recurse.ensures) (c.requires.named c.as_bytes-in-Recurse.result.now)
@@ -232,42 +252,42 @@ run-returns-in_ok-write-in-Minus-clause-named g t c =
     (c.in_ok-run-in-Minus-2.ensures.named)
 
 pub run-returns-in_err-refs-in-Select-clause-bounded : goal.run-returns-in_err-refs-in-Select-clause-bounded
-run-returns-in_err-refs-in-Select-clause-bounded g t c = λ tell p is under there can clear.
+run-returns-in_err-refs-in-Select-clause-bounded g t c = λ tell p is under known there can clear.
     let env = lists_of c.args.sets.now.named.items in
     let kind = c.in-Select.kind in
     let lawful = subst (λ (fs : List Filter). AllByRecursion (Allows kind) (filters_of fs)) (sym c.deref.ensures.value) (can_run_as (ap statement_of c.in-Select.is) can) in
     bounded_as (ap statement_of c.in-Select.is) tell p env _ _
-    (subst (λ (fs : List Filter). IsBounded (WorkOfSelect p env kind (filters_of fs)) c.args.meter.now.spent c.select.new.meter.spent) c.deref.ensures.value (c.select.ensures.bounded p is under there lawful clear))
+    (subst (λ (fs : List Filter). IsBounded (WorkOfSelect p env kind (filters_of fs)) c.args.meter.now.spent c.select_once.new.meter.spent) c.deref.ensures.value (c.select_once.ensures.bounded p is under known there lawful clear))
 
-pub run-returns-in_err-write-in-Select-clause-bounded : goal.run-returns-in_err-write-in-Select-clause-bounded
-run-returns-in_err-write-in-Select-clause-bounded g t c = λ tell p is under there can clear.
+pub run-returns-in_err-write_shared-in-Select-clause-bounded : goal.run-returns-in_err-write_shared-in-Select-clause-bounded
+run-returns-in_err-write_shared-in-Select-clause-bounded g t c = λ tell p is under known there can clear.
     let env = lists_of c.args.sets.now.named.items in
     let kind = c.in-Select.kind in
     let lawful = subst (λ (fs : List Filter). AllByRecursion (Allows kind) (filters_of fs)) (sym c.deref.ensures.value) (can_run_as (ap statement_of c.in-Select.is) can) in
     bounded_as (ap statement_of c.in-Select.is) tell p env _ _
-    (subst (λ (fs : List Filter). IsBounded (WorkOfSelect p env kind (filters_of fs)) c.args.meter.now.spent c.select.new.meter.spent) c.deref.ensures.value (c.select.ensures.bounded p is under there lawful clear))
+    (subst (λ (fs : List Filter). IsBounded (WorkOfSelect p env kind (filters_of fs)) c.args.meter.now.spent c.select_once.new.meter.spent) c.deref.ensures.value (c.select_once.ensures.bounded p is under known there lawful clear))
 
-pub run-returns-in_ok-write-in-Select-clause-bounded : goal.run-returns-in_ok-write-in-Select-clause-bounded
-run-returns-in_ok-write-in-Select-clause-bounded g t c = λ tell p is under there can clear.
+pub run-returns-in_ok-write_shared-in-Select-clause-bounded : goal.run-returns-in_ok-write_shared-in-Select-clause-bounded
+run-returns-in_ok-write_shared-in-Select-clause-bounded g t c = λ tell p is under known there can clear.
     let env = lists_of c.args.sets.now.named.items in
     let kind = c.in-Select.kind in
     let lawful = subst (λ (fs : List Filter). AllByRecursion (Allows kind) (filters_of fs)) (sym c.deref.ensures.value) (can_run_as (ap statement_of c.in-Select.is) can) in
     bounded_as (ap statement_of c.in-Select.is) tell p env _ _
-    (subst (λ (fs : List Filter). IsBounded (WorkOfSelect p env kind (filters_of fs)) c.args.meter.now.spent c.select.new.meter.spent) c.deref.ensures.value (c.select.ensures.bounded p is under there lawful clear))
+    (subst (λ (fs : List Filter). IsBounded (WorkOfSelect p env kind (filters_of fs)) c.args.meter.now.spent c.select_once.new.meter.spent) c.deref.ensures.value (c.select_once.ensures.bounded p is under known there lawful clear))
 
-pub run-returns-in_ok-write-in-Select-clause-spent : goal.run-returns-in_ok-write-in-Select-clause-spent
-run-returns-in_ok-write-in-Select-clause-spent g t c = λ tell p is under there can clear.
+pub run-returns-in_ok-write_shared-in-Select-clause-spent : goal.run-returns-in_ok-write_shared-in-Select-clause-spent
+run-returns-in_ok-write_shared-in-Select-clause-spent g t c = λ tell p is under known there can clear.
     let env = lists_of c.args.sets.now.named.items in
     let kind = c.in-Select.kind in
     let lawful = subst (λ (fs : List Filter). AllByRecursion (Allows kind) (filters_of fs)) (sym c.deref.ensures.value) (can_run_as (ap statement_of c.in-Select.is) can) in
     spent_as (ap statement_of c.in-Select.is) tell p env _ _
-    (subst (λ (fs : List Filter). IsSpent (WorkOfSelect p env kind (filters_of fs)) c.args.meter.now.spent c.select.new.meter.spent) c.deref.ensures.value (c.in_ok-refs-in-Select.ensures.spent p is under there lawful clear))
+    (subst (λ (fs : List Filter). IsSpent (WorkOfSelect p env kind (filters_of fs)) c.args.meter.now.spent c.select_once.new.meter.spent) c.deref.ensures.value (c.in_ok-refs-in-Select.ensures.spent p is under known there lawful clear))
 
 pub run-returns-in_err-set-in-Recurse-clause-bounded : goal.run-returns-in_err-set-in-Recurse-clause-bounded
-run-returns-in_err-set-in-Recurse-clause-bounded g t c = λ tell p is under there can clear. still _ _
+run-returns-in_err-set-in-Recurse-clause-bounded g t c = λ tell p is under known there can clear. still _ _
 
 pub run-returns-in_err-charge-in-Recurse-clause-bounded : goal.run-returns-in_err-charge-in-Recurse-clause-bounded
-run-returns-in_err-charge-in-Recurse-clause-bounded g t c = λ tell p is under there can clear.
+run-returns-in_err-charge-in-Recurse-clause-bounded g t c = λ tell p is under known there can clear.
     let env = lists_of c.args.sets.now.named.items in
     let set = c.deref-in-Recurse.ensures ∙ c.in_ok-set-in-Recurse.ensures ∙ ap env c.as_bytes-in-Recurse.ensures in
     let count = ap (λ (l : List Ref). length l) (c.as_slice.ensures.value ∙ set) in
@@ -275,7 +295,7 @@ run-returns-in_err-charge-in-Recurse-clause-bounded g t c = λ tell p is under t
     (steps_bounded (length (env c.in-Recurse.«from»)) _ _ (subst (λ (n : ℕ). IsCounted c.args.meter.now.spent c.charge.new.self.spent (step_cost * n)) count c.charge.ensures))
 
 pub run-returns-in_err-refs-in-Recurse-clause-bounded : goal.run-returns-in_err-refs-in-Recurse-clause-bounded
-run-returns-in_err-refs-in-Recurse-clause-bounded g t c = λ tell p is under there can clear.
+run-returns-in_err-refs-in-Recurse-clause-bounded g t c = λ tell p is under known there can clear.
     let env = lists_of c.args.sets.now.named.items in
     let set = c.deref-in-Recurse.ensures ∙ c.in_ok-set-in-Recurse.ensures ∙ ap env c.as_bytes-in-Recurse.ensures in
     let count = ap (λ (l : List Ref). length l) (c.as_slice.ensures.value ∙ set) in
@@ -283,7 +303,7 @@ run-returns-in_err-refs-in-Recurse-clause-bounded g t c = λ tell p is under the
     (steps_bounded (length (env c.in-Recurse.«from»)) _ _ (subst (λ (n : ℕ). IsCounted c.args.meter.now.spent c.charge.new.self.spent (step_cost * n)) count c.charge.ensures))
 
 pub run-returns-in_err-write_shared-in-Recurse-clause-bounded : goal.run-returns-in_err-write_shared-in-Recurse-clause-bounded
-run-returns-in_err-write_shared-in-Recurse-clause-bounded g t c = λ tell p is under there can clear.
+run-returns-in_err-write_shared-in-Recurse-clause-bounded g t c = λ tell p is under known there can clear.
     let env = lists_of c.args.sets.now.named.items in
     let set = c.deref-in-Recurse.ensures ∙ c.in_ok-set-in-Recurse.ensures ∙ ap env c.as_bytes-in-Recurse.ensures in
     let count = ap (λ (l : List Ref). length l) (c.as_slice.ensures.value ∙ set) in
@@ -291,7 +311,7 @@ run-returns-in_err-write_shared-in-Recurse-clause-bounded g t c = λ tell p is u
     (steps_bounded (length (env c.in-Recurse.«from»)) _ _ (subst (λ (n : ℕ). IsCounted c.args.meter.now.spent c.charge.new.self.spent (step_cost * n)) count c.charge.ensures))
 
 pub run-returns-in_ok-write_shared-in-Recurse-clause-bounded : goal.run-returns-in_ok-write_shared-in-Recurse-clause-bounded
-run-returns-in_ok-write_shared-in-Recurse-clause-bounded g t c = λ tell p is under there can clear.
+run-returns-in_ok-write_shared-in-Recurse-clause-bounded g t c = λ tell p is under known there can clear.
     let env = lists_of c.args.sets.now.named.items in
     let set = c.deref-in-Recurse.ensures ∙ c.in_ok-set-in-Recurse.ensures ∙ ap env c.as_bytes-in-Recurse.ensures in
     let count = ap (λ (l : List Ref). length l) (c.as_slice.ensures.value ∙ set) in
@@ -299,7 +319,7 @@ run-returns-in_ok-write_shared-in-Recurse-clause-bounded g t c = λ tell p is un
     (steps_bounded (length (env c.in-Recurse.«from»)) _ _ (subst (λ (n : ℕ). IsCounted c.args.meter.now.spent c.charge.new.self.spent (step_cost * n)) count c.charge.ensures))
 
 pub run-returns-in_ok-write_shared-in-Recurse-clause-spent : goal.run-returns-in_ok-write_shared-in-Recurse-clause-spent
-run-returns-in_ok-write_shared-in-Recurse-clause-spent g t c = λ tell p is under there can clear.
+run-returns-in_ok-write_shared-in-Recurse-clause-spent g t c = λ tell p is under known there can clear.
     let env = lists_of c.args.sets.now.named.items in
     let set = c.deref-in-Recurse.ensures ∙ c.in_ok-set-in-Recurse.ensures ∙ ap env c.as_bytes-in-Recurse.ensures in
     let count = ap (λ (l : List Ref). length l) (c.as_slice.ensures.value ∙ set) in
@@ -307,95 +327,95 @@ run-returns-in_ok-write_shared-in-Recurse-clause-spent g t c = λ tell p is unde
     (steps_spent (length (env c.in-Recurse.«from»)) _ _ (subst (λ (n : ℕ). IsCounted c.args.meter.now.spent c.charge.new.self.spent (step_cost * n)) count c.charge.ensures))
 
 pub run-returns-in_err-refs-in-Item-clause-bounded : goal.run-returns-in_err-refs-in-Item-clause-bounded
-run-returns-in_err-refs-in-Item-clause-bounded g t c = λ tell p is under there can clear. still _ _
+run-returns-in_err-refs-in-Item-clause-bounded g t c = λ tell p is under known there can clear. still _ _
 
 pub run-returns-in_err-write_shared-in-Item-clause-bounded : goal.run-returns-in_err-write_shared-in-Item-clause-bounded
-run-returns-in_err-write_shared-in-Item-clause-bounded g t c = λ tell p is under there can clear. still _ _
+run-returns-in_err-write_shared-in-Item-clause-bounded g t c = λ tell p is under known there can clear. still _ _
 
 pub run-returns-in_ok-write_shared-in-Item-clause-bounded : goal.run-returns-in_ok-write_shared-in-Item-clause-bounded
-run-returns-in_ok-write_shared-in-Item-clause-bounded g t c = λ tell p is under there can clear. still _ _
+run-returns-in_ok-write_shared-in-Item-clause-bounded g t c = λ tell p is under known there can clear. still _ _
 
 pub run-returns-in_ok-write_shared-in-Item-clause-spent : goal.run-returns-in_ok-write_shared-in-Item-clause-spent
-run-returns-in_ok-write_shared-in-Item-clause-spent g t c = λ tell p is under there can clear. spent_as (ap statement_of c.in-Item.is) tell p (lists_of c.args.sets.now.named.items) _ _ (nothing_spent _)
+run-returns-in_ok-write_shared-in-Item-clause-spent g t c = λ tell p is under known there can clear. spent_as (ap statement_of c.in-Item.is) tell p (lists_of c.args.sets.now.named.items) _ _ (nothing_spent _)
 
 pub run-returns-in_err-given-in-Union-clause-bounded : goal.run-returns-in_err-given-in-Union-clause-bounded
-run-returns-in_err-given-in-Union-clause-bounded g t c = λ tell p is under there can clear.
+run-returns-in_err-given-in-Union-clause-bounded g t c = λ tell p is under known there can clear.
     let env = lists_of c.args.sets.now.named.items in
     let same = ap statement_of c.in-Union.is ∙ union_is c.in-Union.parts c.in-Union.into in
     let parts = subst (λ (ps : List Stmt). CanRunAll (statements_of ps)) (sym c.deref-in-Union-2.ensures.value) (can_run_as same can) in
     bounded_as same tell p env _ _
-    (subst (λ (ps : List Stmt). IsBounded (WorkOfAll tell p (statements_of ps) env) c.args.meter.now.spent c.run_all.new.meter.spent) c.deref-in-Union-2.ensures.value (c.run_all.ensures.bounded tell p is under there parts clear))
+    (subst (λ (ps : List Stmt). IsBounded (WorkOfAll tell p (statements_of ps) env) c.args.meter.now.spent c.run_all.new.meter.spent) c.deref-in-Union-2.ensures.value (c.run_all.ensures.bounded tell p is under known there parts clear))
 
 pub run-returns-in_err-refs-in-Union-clause-bounded : goal.run-returns-in_err-refs-in-Union-clause-bounded
-run-returns-in_err-refs-in-Union-clause-bounded g t c = λ tell p is under there can clear.
+run-returns-in_err-refs-in-Union-clause-bounded g t c = λ tell p is under known there can clear.
     let env = lists_of c.args.sets.now.named.items in
     let same = ap statement_of c.in-Union.is ∙ union_is c.in-Union.parts c.in-Union.into in
     let parts = subst (λ (ps : List Stmt). CanRunAll (statements_of ps)) (sym c.deref-in-Union-2.ensures.value) (can_run_as same can) in
     bounded_as same tell p env _ _
-    (subst (λ (ps : List Stmt). IsBounded (WorkOfAll tell p (statements_of ps) env) c.args.meter.now.spent c.run_all.new.meter.spent) c.deref-in-Union-2.ensures.value (c.run_all.ensures.bounded tell p is under there parts clear))
+    (subst (λ (ps : List Stmt). IsBounded (WorkOfAll tell p (statements_of ps) env) c.args.meter.now.spent c.run_all.new.meter.spent) c.deref-in-Union-2.ensures.value (c.run_all.ensures.bounded tell p is under known there parts clear))
 
 pub run-returns-in_err-write-in-Union-clause-bounded : goal.run-returns-in_err-write-in-Union-clause-bounded
-run-returns-in_err-write-in-Union-clause-bounded g t c = λ tell p is under there can clear.
+run-returns-in_err-write-in-Union-clause-bounded g t c = λ tell p is under known there can clear.
     let env = lists_of c.args.sets.now.named.items in
     let same = ap statement_of c.in-Union.is ∙ union_is c.in-Union.parts c.in-Union.into in
     let parts = subst (λ (ps : List Stmt). CanRunAll (statements_of ps)) (sym c.deref-in-Union-2.ensures.value) (can_run_as same can) in
     bounded_as same tell p env _ _
-    (subst (λ (ps : List Stmt). IsBounded (WorkOfAll tell p (statements_of ps) env) c.args.meter.now.spent c.run_all.new.meter.spent) c.deref-in-Union-2.ensures.value (c.run_all.ensures.bounded tell p is under there parts clear))
+    (subst (λ (ps : List Stmt). IsBounded (WorkOfAll tell p (statements_of ps) env) c.args.meter.now.spent c.run_all.new.meter.spent) c.deref-in-Union-2.ensures.value (c.run_all.ensures.bounded tell p is under known there parts clear))
 
 pub run-returns-in_ok-write-in-Union-clause-bounded : goal.run-returns-in_ok-write-in-Union-clause-bounded
-run-returns-in_ok-write-in-Union-clause-bounded g t c = λ tell p is under there can clear.
+run-returns-in_ok-write-in-Union-clause-bounded g t c = λ tell p is under known there can clear.
     let env = lists_of c.args.sets.now.named.items in
     let same = ap statement_of c.in-Union.is ∙ union_is c.in-Union.parts c.in-Union.into in
     let parts = subst (λ (ps : List Stmt). CanRunAll (statements_of ps)) (sym c.deref-in-Union-2.ensures.value) (can_run_as same can) in
     bounded_as same tell p env _ _
-    (subst (λ (ps : List Stmt). IsBounded (WorkOfAll tell p (statements_of ps) env) c.args.meter.now.spent c.run_all.new.meter.spent) c.deref-in-Union-2.ensures.value (c.run_all.ensures.bounded tell p is under there parts clear))
+    (subst (λ (ps : List Stmt). IsBounded (WorkOfAll tell p (statements_of ps) env) c.args.meter.now.spent c.run_all.new.meter.spent) c.deref-in-Union-2.ensures.value (c.run_all.ensures.bounded tell p is under known there parts clear))
 
 pub run-returns-in_ok-write-in-Union-clause-spent : goal.run-returns-in_ok-write-in-Union-clause-spent
-run-returns-in_ok-write-in-Union-clause-spent g t c = λ tell p is under there can clear.
+run-returns-in_ok-write-in-Union-clause-spent g t c = λ tell p is under known there can clear.
     let env = lists_of c.args.sets.now.named.items in
     let same = ap statement_of c.in-Union.is ∙ union_is c.in-Union.parts c.in-Union.into in
     let parts = subst (λ (ps : List Stmt). CanRunAll (statements_of ps)) (sym c.deref-in-Union-2.ensures.value) (can_run_as same can) in
     spent_as same tell p env _ _
-    (subst (λ (ps : List Stmt). IsSpent (WorkOfAll tell p (statements_of ps) env) c.args.meter.now.spent c.run_all.new.meter.spent) c.deref-in-Union-2.ensures.value (c.in_ok-given-in-Union.ensures.spent tell p is under there parts clear))
+    (subst (λ (ps : List Stmt). IsSpent (WorkOfAll tell p (statements_of ps) env) c.args.meter.now.spent c.run_all.new.meter.spent) c.deref-in-Union-2.ensures.value (c.in_ok-given-in-Union.ensures.spent tell p is under known there parts clear))
 
 pub run-returns-in_err-run-in-Minus-clause-bounded : goal.run-returns-in_err-run-in-Minus-clause-bounded
-run-returns-in_err-run-in-Minus-clause-bounded g t c = λ tell p is under there can clear.
+run-returns-in_err-run-in-Minus-clause-bounded g t c = λ tell p is under known there can clear.
     let env = lists_of c.args.sets.now.named.items in
     let left = c.in-Minus.left.value in
     let right = c.in-Minus.right.value in
     let same = ap statement_of c.in-Minus.is in
     let both = can_run_as same can in
     let first = subst (λ (s : Stmt). CanRun (statement_of s)) (sym c.deref-in-Minus.ensures) both.0 in
-    let ran = subst (λ (s : Stmt). IsBounded (WorkOf tell p (statement_of s) env) c.args.meter.now.spent c.run.new.meter.spent) c.deref-in-Minus.ensures (c.run.ensures.bounded tell p is under there first clear) in
+    let ran = subst (λ (s : Stmt). IsBounded (WorkOf tell p (statement_of s) env) c.args.meter.now.spent c.run.new.meter.spent) c.deref-in-Minus.ensures (c.run.ensures.bounded tell p is under known there first clear) in
     bounded_as same tell p env _ _ (row_stops p.objects (statement_of left) env _ _ ran)
 
 pub run-returns-in_err-first-in-Minus-clause-bounded : goal.run-returns-in_err-first-in-Minus-clause-bounded
-run-returns-in_err-first-in-Minus-clause-bounded g t c = λ tell p is under there can clear.
+run-returns-in_err-first-in-Minus-clause-bounded g t c = λ tell p is under known there can clear.
     let env = lists_of c.args.sets.now.named.items in
     let left = c.in-Minus.left.value in
     let right = c.in-Minus.right.value in
     let same = ap statement_of c.in-Minus.is in
     let both = can_run_as same can in
     let first = subst (λ (s : Stmt). CanRun (statement_of s)) (sym c.deref-in-Minus.ensures) both.0 in
-    let ran = subst (λ (s : Stmt). IsBounded (WorkOf tell p (statement_of s) env) c.args.meter.now.spent c.run.new.meter.spent) c.deref-in-Minus.ensures (c.run.ensures.bounded tell p is under there first clear) in
+    let ran = subst (λ (s : Stmt). IsBounded (WorkOf tell p (statement_of s) env) c.args.meter.now.spent c.run.new.meter.spent) c.deref-in-Minus.ensures (c.run.ensures.bounded tell p is under known there first clear) in
     bounded_as same tell p env _ _ (row_stops p.objects (statement_of left) env _ _ ran)
 
 pub run-returns-in_err-charge_run-in-Minus-clause-bounded : goal.run-returns-in_err-charge_run-in-Minus-clause-bounded
-run-returns-in_err-charge_run-in-Minus-clause-bounded g t c = λ tell p is under there can clear.
+run-returns-in_err-charge_run-in-Minus-clause-bounded g t c = λ tell p is under known there can clear.
     let env = lists_of c.args.sets.now.named.items in
     let left = c.in-Minus.left.value in
     let right = c.in-Minus.right.value in
     let same = ap statement_of c.in-Minus.is in
     let both = can_run_as same can in
     let first = subst (λ (s : Stmt). CanRun (statement_of s)) (sym c.deref-in-Minus.ensures) both.0 in
-    let ran = subst (λ (s : Stmt). IsBounded (WorkOf tell p (statement_of s) env) c.args.meter.now.spent c.run.new.meter.spent) c.deref-in-Minus.ensures (c.run.ensures.bounded tell p is under there first clear) in
+    let ran = subst (λ (s : Stmt). IsBounded (WorkOf tell p (statement_of s) env) c.args.meter.now.spent c.run.new.meter.spent) c.deref-in-Minus.ensures (c.run.ensures.bounded tell p is under known there first clear) in
     let mid = lists_of c.run.new.sets.named.items in
-    let so = found_well (λ x used. used) clear (subst (λ (s : Stmt). RanWell p (statement_of s) env mid (uses (g.W.Source.holds c.run.new.source) (g.W.Source.used c.args.source.now) (g.W.Source.used c.run.new.source)) (Ok c.in_ok-run-in-Minus.field-0)) c.deref-in-Minus.ensures (c.in_ok-run-in-Minus.ensures.answer p is under there first)) in
+    let so = found_well (λ x used. used) clear (subst (λ (s : Stmt). RanWell p (statement_of s) env mid (AreAnswers p (g.W.Source.used c.run.new.source) c.run.new.memo.remembered.items) (uses (g.W.Source.holds c.run.new.source) (g.W.Source.used c.args.source.now) (g.W.Source.used c.run.new.source)) (Ok c.in_ok-run-in-Minus.field-0)) c.deref-in-Minus.ensures (c.in_ok-run-in-Minus.ensures.answer p is under known there first)) in
     let given : c.deref-in-Minus-3.result.now ≡ given_by (statement_of left) mid = c.deref-in-Minus-3.ensures ∙ c.in_ok-first-in-Minus.ensures ∙ ap (λ (s : Stmt). given_by (statement_of s) mid) c.deref-in-Minus-2.ensures in
-    bounded_as same tell p env _ _ (row_bounded p.objects (statement_of left) env mid c.deref-in-Minus-3.result.now so given _ _ _ _ c.charge_run.ensures ran (still _ _))
+    bounded_as same tell p env _ _ (row_bounded p.objects (statement_of left) env mid c.deref-in-Minus-3.result.now so.0 given _ _ _ _ c.charge_run.ensures ran (still _ _))
 
 pub run-returns-in_err-run-in-Minus-2-clause-bounded : goal.run-returns-in_err-run-in-Minus-2-clause-bounded
-run-returns-in_err-run-in-Minus-2-clause-bounded g t c = λ tell p is under there can clear.
+run-returns-in_err-run-in-Minus-2-clause-bounded g t c = λ tell p is under known there can clear.
     let env = lists_of c.args.sets.now.named.items in
     let left = c.in-Minus.left.value in
     let right = c.in-Minus.right.value in
@@ -403,18 +423,18 @@ run-returns-in_err-run-in-Minus-2-clause-bounded g t c = λ tell p is under ther
     let both = can_run_as same can in
     let first = subst (λ (s : Stmt). CanRun (statement_of s)) (sym c.deref-in-Minus.ensures) both.0 in
     let early = clear_before (λ x. g.met.W.Source.grows _ _ x c.run-in-Minus.ensures.later) clear in
-    let ran = subst (λ (s : Stmt). IsBounded (WorkOf tell p (statement_of s) env) c.args.meter.now.spent c.run.new.meter.spent) c.deref-in-Minus.ensures (c.run.ensures.bounded tell p is under there first early) in
+    let ran = subst (λ (s : Stmt). IsBounded (WorkOf tell p (statement_of s) env) c.args.meter.now.spent c.run.new.meter.spent) c.deref-in-Minus.ensures (c.run.ensures.bounded tell p is under known there first early) in
     let mid = lists_of c.run.new.sets.named.items in
-    let so = found_well (λ x used. used) early (subst (λ (s : Stmt). RanWell p (statement_of s) env mid (uses (g.W.Source.holds c.run.new.source) (g.W.Source.used c.args.source.now) (g.W.Source.used c.run.new.source)) (Ok c.in_ok-run-in-Minus.field-0)) c.deref-in-Minus.ensures (c.in_ok-run-in-Minus.ensures.answer p is under there first)) in
+    let so = found_well (λ x used. used) early (subst (λ (s : Stmt). RanWell p (statement_of s) env mid (AreAnswers p (g.W.Source.used c.run.new.source) c.run.new.memo.remembered.items) (uses (g.W.Source.holds c.run.new.source) (g.W.Source.used c.args.source.now) (g.W.Source.used c.run.new.source)) (Ok c.in_ok-run-in-Minus.field-0)) c.deref-in-Minus.ensures (c.in_ok-run-in-Minus.ensures.answer p is under known there first)) in
     let given : c.deref-in-Minus-3.result.now ≡ given_by (statement_of left) mid = c.deref-in-Minus-3.ensures ∙ c.in_ok-first-in-Minus.ensures ∙ ap (λ (s : Stmt). given_by (statement_of s) mid) c.deref-in-Minus-2.ensures in
     let second = subst (λ (s : Stmt). CanRun (statement_of s)) (sym c.deref-in-Minus-4.ensures) both.1 in
-    let there_too = after_there p.objects (statement_of left) env mid so there in
+    let there_too = after_there p.objects (statement_of left) env mid so.0 there in
     let under_too = g.met.W.Source.same_under _ _ p c.in_ok-run-in-Minus.ensures.later under in
-    let ran_too = subst (λ (s : Stmt). IsBounded (WorkOf tell p (statement_of s) mid) c.charge_run.new.self.spent c.run-in-Minus.new.meter.spent) c.deref-in-Minus-4.ensures (c.run-in-Minus.ensures.bounded tell p is under_too there_too second clear) in
-    bounded_as same tell p env _ _ (row_bounded p.objects (statement_of left) env mid c.deref-in-Minus-3.result.now so given _ _ _ _ c.charge_run.ensures ran (row_stops p.objects (statement_of right) mid _ _ ran_too))
+    let ran_too = subst (λ (s : Stmt). IsBounded (WorkOf tell p (statement_of s) mid) c.charge_run.new.self.spent c.run-in-Minus.new.meter.spent) c.deref-in-Minus-4.ensures (c.run-in-Minus.ensures.bounded tell p is under_too so.1 there_too second clear) in
+    bounded_as same tell p env _ _ (row_bounded p.objects (statement_of left) env mid c.deref-in-Minus-3.result.now so.0 given _ _ _ _ c.charge_run.ensures ran (row_stops p.objects (statement_of right) mid _ _ ran_too))
 
 pub run-returns-in_err-charge_run-in-Minus-2-clause-bounded : goal.run-returns-in_err-charge_run-in-Minus-2-clause-bounded
-run-returns-in_err-charge_run-in-Minus-2-clause-bounded g t c = λ tell p is under there can clear.
+run-returns-in_err-charge_run-in-Minus-2-clause-bounded g t c = λ tell p is under known there can clear.
     let env = lists_of c.args.sets.now.named.items in
     let left = c.in-Minus.left.value in
     let right = c.in-Minus.right.value in
@@ -422,23 +442,23 @@ run-returns-in_err-charge_run-in-Minus-2-clause-bounded g t c = λ tell p is und
     let both = can_run_as same can in
     let first = subst (λ (s : Stmt). CanRun (statement_of s)) (sym c.deref-in-Minus.ensures) both.0 in
     let early = clear_before (λ x. g.met.W.Source.grows _ _ x c.run-in-Minus.ensures.later) clear in
-    let ran = subst (λ (s : Stmt). IsBounded (WorkOf tell p (statement_of s) env) c.args.meter.now.spent c.run.new.meter.spent) c.deref-in-Minus.ensures (c.run.ensures.bounded tell p is under there first early) in
+    let ran = subst (λ (s : Stmt). IsBounded (WorkOf tell p (statement_of s) env) c.args.meter.now.spent c.run.new.meter.spent) c.deref-in-Minus.ensures (c.run.ensures.bounded tell p is under known there first early) in
     let mid = lists_of c.run.new.sets.named.items in
-    let so = found_well (λ x used. used) early (subst (λ (s : Stmt). RanWell p (statement_of s) env mid (uses (g.W.Source.holds c.run.new.source) (g.W.Source.used c.args.source.now) (g.W.Source.used c.run.new.source)) (Ok c.in_ok-run-in-Minus.field-0)) c.deref-in-Minus.ensures (c.in_ok-run-in-Minus.ensures.answer p is under there first)) in
+    let so = found_well (λ x used. used) early (subst (λ (s : Stmt). RanWell p (statement_of s) env mid (AreAnswers p (g.W.Source.used c.run.new.source) c.run.new.memo.remembered.items) (uses (g.W.Source.holds c.run.new.source) (g.W.Source.used c.args.source.now) (g.W.Source.used c.run.new.source)) (Ok c.in_ok-run-in-Minus.field-0)) c.deref-in-Minus.ensures (c.in_ok-run-in-Minus.ensures.answer p is under known there first)) in
     let given : c.deref-in-Minus-3.result.now ≡ given_by (statement_of left) mid = c.deref-in-Minus-3.ensures ∙ c.in_ok-first-in-Minus.ensures ∙ ap (λ (s : Stmt). given_by (statement_of s) mid) c.deref-in-Minus-2.ensures in
     let second = subst (λ (s : Stmt). CanRun (statement_of s)) (sym c.deref-in-Minus-4.ensures) both.1 in
-    let there_too = after_there p.objects (statement_of left) env mid so there in
+    let there_too = after_there p.objects (statement_of left) env mid so.0 there in
     let under_too = g.met.W.Source.same_under _ _ p c.in_ok-run-in-Minus.ensures.later under in
-    let ran_too = subst (λ (s : Stmt). IsBounded (WorkOf tell p (statement_of s) mid) c.charge_run.new.self.spent c.run-in-Minus.new.meter.spent) c.deref-in-Minus-4.ensures (c.run-in-Minus.ensures.bounded tell p is under_too there_too second clear) in
+    let ran_too = subst (λ (s : Stmt). IsBounded (WorkOf tell p (statement_of s) mid) c.charge_run.new.self.spent c.run-in-Minus.new.meter.spent) c.deref-in-Minus-4.ensures (c.run-in-Minus.ensures.bounded tell p is under_too so.1 there_too second clear) in
     let end = lists_of c.run-in-Minus.new.sets.named.items in
-    let so_too = found_well (λ x used. used) clear (subst (λ (s : Stmt). RanWell p (statement_of s) mid end (uses (g.W.Source.holds c.run-in-Minus.new.source) (g.W.Source.used c.run.new.source) (g.W.Source.used c.run-in-Minus.new.source)) (Ok c.in_ok-run-in-Minus-2.field-0)) c.deref-in-Minus-4.ensures
-    (c.in_ok-run-in-Minus-2.ensures.answer p is under_too there_too second)) in
+    let so_too = found_well (λ x used. used) clear (subst (λ (s : Stmt). RanWell p (statement_of s) mid end (AreAnswers p (g.W.Source.used c.run-in-Minus.new.source) c.run-in-Minus.new.memo.remembered.items) (uses (g.W.Source.holds c.run-in-Minus.new.source) (g.W.Source.used c.run.new.source) (g.W.Source.used c.run-in-Minus.new.source)) (Ok c.in_ok-run-in-Minus-2.field-0)) c.deref-in-Minus-4.ensures
+    (c.in_ok-run-in-Minus-2.ensures.answer p is under_too so.1 there_too second)) in
     let given_too : c.written_by-second.result.now ≡ given_by (statement_of right) end = c.written_by-second.ensures ∙ ap (λ (s : Stmt). given_by (statement_of s) end) c.deref-in-Minus-5.ensures in
-    bounded_as same tell p env _ _ (row_bounded p.objects (statement_of left) env mid c.deref-in-Minus-3.result.now so given _ _ _ _ c.charge_run.ensures ran
-    (row_bounded p.objects (statement_of right) mid end c.written_by-second.result.now so_too given_too _ _ _ _ c.charge_run-in-Minus.ensures ran_too (still _ _)))
+    bounded_as same tell p env _ _ (row_bounded p.objects (statement_of left) env mid c.deref-in-Minus-3.result.now so.0 given _ _ _ _ c.charge_run.ensures ran
+    (row_bounded p.objects (statement_of right) mid end c.written_by-second.result.now so_too.0 given_too _ _ _ _ c.charge_run-in-Minus.ensures ran_too (still _ _)))
 
 pub run-returns-in_err-refs-in-Minus-clause-bounded : goal.run-returns-in_err-refs-in-Minus-clause-bounded
-run-returns-in_err-refs-in-Minus-clause-bounded g t c = λ tell p is under there can clear.
+run-returns-in_err-refs-in-Minus-clause-bounded g t c = λ tell p is under known there can clear.
     let env = lists_of c.args.sets.now.named.items in
     let left = c.in-Minus.left.value in
     let right = c.in-Minus.right.value in
@@ -446,23 +466,23 @@ run-returns-in_err-refs-in-Minus-clause-bounded g t c = λ tell p is under there
     let both = can_run_as same can in
     let first = subst (λ (s : Stmt). CanRun (statement_of s)) (sym c.deref-in-Minus.ensures) both.0 in
     let early = clear_before (λ x. g.met.W.Source.grows _ _ x c.run-in-Minus.ensures.later) clear in
-    let ran = subst (λ (s : Stmt). IsBounded (WorkOf tell p (statement_of s) env) c.args.meter.now.spent c.run.new.meter.spent) c.deref-in-Minus.ensures (c.run.ensures.bounded tell p is under there first early) in
+    let ran = subst (λ (s : Stmt). IsBounded (WorkOf tell p (statement_of s) env) c.args.meter.now.spent c.run.new.meter.spent) c.deref-in-Minus.ensures (c.run.ensures.bounded tell p is under known there first early) in
     let mid = lists_of c.run.new.sets.named.items in
-    let so = found_well (λ x used. used) early (subst (λ (s : Stmt). RanWell p (statement_of s) env mid (uses (g.W.Source.holds c.run.new.source) (g.W.Source.used c.args.source.now) (g.W.Source.used c.run.new.source)) (Ok c.in_ok-run-in-Minus.field-0)) c.deref-in-Minus.ensures (c.in_ok-run-in-Minus.ensures.answer p is under there first)) in
+    let so = found_well (λ x used. used) early (subst (λ (s : Stmt). RanWell p (statement_of s) env mid (AreAnswers p (g.W.Source.used c.run.new.source) c.run.new.memo.remembered.items) (uses (g.W.Source.holds c.run.new.source) (g.W.Source.used c.args.source.now) (g.W.Source.used c.run.new.source)) (Ok c.in_ok-run-in-Minus.field-0)) c.deref-in-Minus.ensures (c.in_ok-run-in-Minus.ensures.answer p is under known there first)) in
     let given : c.deref-in-Minus-3.result.now ≡ given_by (statement_of left) mid = c.deref-in-Minus-3.ensures ∙ c.in_ok-first-in-Minus.ensures ∙ ap (λ (s : Stmt). given_by (statement_of s) mid) c.deref-in-Minus-2.ensures in
     let second = subst (λ (s : Stmt). CanRun (statement_of s)) (sym c.deref-in-Minus-4.ensures) both.1 in
-    let there_too = after_there p.objects (statement_of left) env mid so there in
+    let there_too = after_there p.objects (statement_of left) env mid so.0 there in
     let under_too = g.met.W.Source.same_under _ _ p c.in_ok-run-in-Minus.ensures.later under in
-    let ran_too = subst (λ (s : Stmt). IsBounded (WorkOf tell p (statement_of s) mid) c.charge_run.new.self.spent c.run-in-Minus.new.meter.spent) c.deref-in-Minus-4.ensures (c.run-in-Minus.ensures.bounded tell p is under_too there_too second clear) in
+    let ran_too = subst (λ (s : Stmt). IsBounded (WorkOf tell p (statement_of s) mid) c.charge_run.new.self.spent c.run-in-Minus.new.meter.spent) c.deref-in-Minus-4.ensures (c.run-in-Minus.ensures.bounded tell p is under_too so.1 there_too second clear) in
     let end = lists_of c.run-in-Minus.new.sets.named.items in
-    let so_too = found_well (λ x used. used) clear (subst (λ (s : Stmt). RanWell p (statement_of s) mid end (uses (g.W.Source.holds c.run-in-Minus.new.source) (g.W.Source.used c.run.new.source) (g.W.Source.used c.run-in-Minus.new.source)) (Ok c.in_ok-run-in-Minus-2.field-0)) c.deref-in-Minus-4.ensures
-    (c.in_ok-run-in-Minus-2.ensures.answer p is under_too there_too second)) in
+    let so_too = found_well (λ x used. used) clear (subst (λ (s : Stmt). RanWell p (statement_of s) mid end (AreAnswers p (g.W.Source.used c.run-in-Minus.new.source) c.run-in-Minus.new.memo.remembered.items) (uses (g.W.Source.holds c.run-in-Minus.new.source) (g.W.Source.used c.run.new.source) (g.W.Source.used c.run-in-Minus.new.source)) (Ok c.in_ok-run-in-Minus-2.field-0)) c.deref-in-Minus-4.ensures
+    (c.in_ok-run-in-Minus-2.ensures.answer p is under_too so.1 there_too second)) in
     let given_too : c.written_by-second.result.now ≡ given_by (statement_of right) end = c.written_by-second.ensures ∙ ap (λ (s : Stmt). given_by (statement_of s) end) c.deref-in-Minus-5.ensures in
-    bounded_as same tell p env _ _ (row_bounded p.objects (statement_of left) env mid c.deref-in-Minus-3.result.now so given _ _ _ _ c.charge_run.ensures ran
-    (row_bounded p.objects (statement_of right) mid end c.written_by-second.result.now so_too given_too _ _ _ _ c.charge_run-in-Minus.ensures ran_too (still _ _)))
+    bounded_as same tell p env _ _ (row_bounded p.objects (statement_of left) env mid c.deref-in-Minus-3.result.now so.0 given _ _ _ _ c.charge_run.ensures ran
+    (row_bounded p.objects (statement_of right) mid end c.written_by-second.result.now so_too.0 given_too _ _ _ _ c.charge_run-in-Minus.ensures ran_too (still _ _)))
 
 pub run-returns-in_err-write-in-Minus-clause-bounded : goal.run-returns-in_err-write-in-Minus-clause-bounded
-run-returns-in_err-write-in-Minus-clause-bounded g t c = λ tell p is under there can clear.
+run-returns-in_err-write-in-Minus-clause-bounded g t c = λ tell p is under known there can clear.
     let env = lists_of c.args.sets.now.named.items in
     let left = c.in-Minus.left.value in
     let right = c.in-Minus.right.value in
@@ -470,23 +490,23 @@ run-returns-in_err-write-in-Minus-clause-bounded g t c = λ tell p is under ther
     let both = can_run_as same can in
     let first = subst (λ (s : Stmt). CanRun (statement_of s)) (sym c.deref-in-Minus.ensures) both.0 in
     let early = clear_before (λ x. g.met.W.Source.grows _ _ x c.run-in-Minus.ensures.later) clear in
-    let ran = subst (λ (s : Stmt). IsBounded (WorkOf tell p (statement_of s) env) c.args.meter.now.spent c.run.new.meter.spent) c.deref-in-Minus.ensures (c.run.ensures.bounded tell p is under there first early) in
+    let ran = subst (λ (s : Stmt). IsBounded (WorkOf tell p (statement_of s) env) c.args.meter.now.spent c.run.new.meter.spent) c.deref-in-Minus.ensures (c.run.ensures.bounded tell p is under known there first early) in
     let mid = lists_of c.run.new.sets.named.items in
-    let so = found_well (λ x used. used) early (subst (λ (s : Stmt). RanWell p (statement_of s) env mid (uses (g.W.Source.holds c.run.new.source) (g.W.Source.used c.args.source.now) (g.W.Source.used c.run.new.source)) (Ok c.in_ok-run-in-Minus.field-0)) c.deref-in-Minus.ensures (c.in_ok-run-in-Minus.ensures.answer p is under there first)) in
+    let so = found_well (λ x used. used) early (subst (λ (s : Stmt). RanWell p (statement_of s) env mid (AreAnswers p (g.W.Source.used c.run.new.source) c.run.new.memo.remembered.items) (uses (g.W.Source.holds c.run.new.source) (g.W.Source.used c.args.source.now) (g.W.Source.used c.run.new.source)) (Ok c.in_ok-run-in-Minus.field-0)) c.deref-in-Minus.ensures (c.in_ok-run-in-Minus.ensures.answer p is under known there first)) in
     let given : c.deref-in-Minus-3.result.now ≡ given_by (statement_of left) mid = c.deref-in-Minus-3.ensures ∙ c.in_ok-first-in-Minus.ensures ∙ ap (λ (s : Stmt). given_by (statement_of s) mid) c.deref-in-Minus-2.ensures in
     let second = subst (λ (s : Stmt). CanRun (statement_of s)) (sym c.deref-in-Minus-4.ensures) both.1 in
-    let there_too = after_there p.objects (statement_of left) env mid so there in
+    let there_too = after_there p.objects (statement_of left) env mid so.0 there in
     let under_too = g.met.W.Source.same_under _ _ p c.in_ok-run-in-Minus.ensures.later under in
-    let ran_too = subst (λ (s : Stmt). IsBounded (WorkOf tell p (statement_of s) mid) c.charge_run.new.self.spent c.run-in-Minus.new.meter.spent) c.deref-in-Minus-4.ensures (c.run-in-Minus.ensures.bounded tell p is under_too there_too second clear) in
+    let ran_too = subst (λ (s : Stmt). IsBounded (WorkOf tell p (statement_of s) mid) c.charge_run.new.self.spent c.run-in-Minus.new.meter.spent) c.deref-in-Minus-4.ensures (c.run-in-Minus.ensures.bounded tell p is under_too so.1 there_too second clear) in
     let end = lists_of c.run-in-Minus.new.sets.named.items in
-    let so_too = found_well (λ x used. used) clear (subst (λ (s : Stmt). RanWell p (statement_of s) mid end (uses (g.W.Source.holds c.run-in-Minus.new.source) (g.W.Source.used c.run.new.source) (g.W.Source.used c.run-in-Minus.new.source)) (Ok c.in_ok-run-in-Minus-2.field-0)) c.deref-in-Minus-4.ensures
-    (c.in_ok-run-in-Minus-2.ensures.answer p is under_too there_too second)) in
+    let so_too = found_well (λ x used. used) clear (subst (λ (s : Stmt). RanWell p (statement_of s) mid end (AreAnswers p (g.W.Source.used c.run-in-Minus.new.source) c.run-in-Minus.new.memo.remembered.items) (uses (g.W.Source.holds c.run-in-Minus.new.source) (g.W.Source.used c.run.new.source) (g.W.Source.used c.run-in-Minus.new.source)) (Ok c.in_ok-run-in-Minus-2.field-0)) c.deref-in-Minus-4.ensures
+    (c.in_ok-run-in-Minus-2.ensures.answer p is under_too so.1 there_too second)) in
     let given_too : c.written_by-second.result.now ≡ given_by (statement_of right) end = c.written_by-second.ensures ∙ ap (λ (s : Stmt). given_by (statement_of s) end) c.deref-in-Minus-5.ensures in
-    bounded_as same tell p env _ _ (row_bounded p.objects (statement_of left) env mid c.deref-in-Minus-3.result.now so given _ _ _ _ c.charge_run.ensures ran
-    (row_bounded p.objects (statement_of right) mid end c.written_by-second.result.now so_too given_too _ _ _ _ c.charge_run-in-Minus.ensures ran_too (still _ _)))
+    bounded_as same tell p env _ _ (row_bounded p.objects (statement_of left) env mid c.deref-in-Minus-3.result.now so.0 given _ _ _ _ c.charge_run.ensures ran
+    (row_bounded p.objects (statement_of right) mid end c.written_by-second.result.now so_too.0 given_too _ _ _ _ c.charge_run-in-Minus.ensures ran_too (still _ _)))
 
 pub run-returns-in_ok-write-in-Minus-clause-bounded : goal.run-returns-in_ok-write-in-Minus-clause-bounded
-run-returns-in_ok-write-in-Minus-clause-bounded g t c = λ tell p is under there can clear.
+run-returns-in_ok-write-in-Minus-clause-bounded g t c = λ tell p is under known there can clear.
     let env = lists_of c.args.sets.now.named.items in
     let left = c.in-Minus.left.value in
     let right = c.in-Minus.right.value in
@@ -494,23 +514,23 @@ run-returns-in_ok-write-in-Minus-clause-bounded g t c = λ tell p is under there
     let both = can_run_as same can in
     let first = subst (λ (s : Stmt). CanRun (statement_of s)) (sym c.deref-in-Minus.ensures) both.0 in
     let early = clear_before (λ x. g.met.W.Source.grows _ _ x c.run-in-Minus.ensures.later) clear in
-    let ran = subst (λ (s : Stmt). IsBounded (WorkOf tell p (statement_of s) env) c.args.meter.now.spent c.run.new.meter.spent) c.deref-in-Minus.ensures (c.run.ensures.bounded tell p is under there first early) in
+    let ran = subst (λ (s : Stmt). IsBounded (WorkOf tell p (statement_of s) env) c.args.meter.now.spent c.run.new.meter.spent) c.deref-in-Minus.ensures (c.run.ensures.bounded tell p is under known there first early) in
     let mid = lists_of c.run.new.sets.named.items in
-    let so = found_well (λ x used. used) early (subst (λ (s : Stmt). RanWell p (statement_of s) env mid (uses (g.W.Source.holds c.run.new.source) (g.W.Source.used c.args.source.now) (g.W.Source.used c.run.new.source)) (Ok c.in_ok-run-in-Minus.field-0)) c.deref-in-Minus.ensures (c.in_ok-run-in-Minus.ensures.answer p is under there first)) in
+    let so = found_well (λ x used. used) early (subst (λ (s : Stmt). RanWell p (statement_of s) env mid (AreAnswers p (g.W.Source.used c.run.new.source) c.run.new.memo.remembered.items) (uses (g.W.Source.holds c.run.new.source) (g.W.Source.used c.args.source.now) (g.W.Source.used c.run.new.source)) (Ok c.in_ok-run-in-Minus.field-0)) c.deref-in-Minus.ensures (c.in_ok-run-in-Minus.ensures.answer p is under known there first)) in
     let given : c.deref-in-Minus-3.result.now ≡ given_by (statement_of left) mid = c.deref-in-Minus-3.ensures ∙ c.in_ok-first-in-Minus.ensures ∙ ap (λ (s : Stmt). given_by (statement_of s) mid) c.deref-in-Minus-2.ensures in
     let second = subst (λ (s : Stmt). CanRun (statement_of s)) (sym c.deref-in-Minus-4.ensures) both.1 in
-    let there_too = after_there p.objects (statement_of left) env mid so there in
+    let there_too = after_there p.objects (statement_of left) env mid so.0 there in
     let under_too = g.met.W.Source.same_under _ _ p c.in_ok-run-in-Minus.ensures.later under in
-    let ran_too = subst (λ (s : Stmt). IsBounded (WorkOf tell p (statement_of s) mid) c.charge_run.new.self.spent c.run-in-Minus.new.meter.spent) c.deref-in-Minus-4.ensures (c.run-in-Minus.ensures.bounded tell p is under_too there_too second clear) in
+    let ran_too = subst (λ (s : Stmt). IsBounded (WorkOf tell p (statement_of s) mid) c.charge_run.new.self.spent c.run-in-Minus.new.meter.spent) c.deref-in-Minus-4.ensures (c.run-in-Minus.ensures.bounded tell p is under_too so.1 there_too second clear) in
     let end = lists_of c.run-in-Minus.new.sets.named.items in
-    let so_too = found_well (λ x used. used) clear (subst (λ (s : Stmt). RanWell p (statement_of s) mid end (uses (g.W.Source.holds c.run-in-Minus.new.source) (g.W.Source.used c.run.new.source) (g.W.Source.used c.run-in-Minus.new.source)) (Ok c.in_ok-run-in-Minus-2.field-0)) c.deref-in-Minus-4.ensures
-    (c.in_ok-run-in-Minus-2.ensures.answer p is under_too there_too second)) in
+    let so_too = found_well (λ x used. used) clear (subst (λ (s : Stmt). RanWell p (statement_of s) mid end (AreAnswers p (g.W.Source.used c.run-in-Minus.new.source) c.run-in-Minus.new.memo.remembered.items) (uses (g.W.Source.holds c.run-in-Minus.new.source) (g.W.Source.used c.run.new.source) (g.W.Source.used c.run-in-Minus.new.source)) (Ok c.in_ok-run-in-Minus-2.field-0)) c.deref-in-Minus-4.ensures
+    (c.in_ok-run-in-Minus-2.ensures.answer p is under_too so.1 there_too second)) in
     let given_too : c.written_by-second.result.now ≡ given_by (statement_of right) end = c.written_by-second.ensures ∙ ap (λ (s : Stmt). given_by (statement_of s) end) c.deref-in-Minus-5.ensures in
-    bounded_as same tell p env _ _ (row_bounded p.objects (statement_of left) env mid c.deref-in-Minus-3.result.now so given _ _ _ _ c.charge_run.ensures ran
-    (row_bounded p.objects (statement_of right) mid end c.written_by-second.result.now so_too given_too _ _ _ _ c.charge_run-in-Minus.ensures ran_too (still _ _)))
+    bounded_as same tell p env _ _ (row_bounded p.objects (statement_of left) env mid c.deref-in-Minus-3.result.now so.0 given _ _ _ _ c.charge_run.ensures ran
+    (row_bounded p.objects (statement_of right) mid end c.written_by-second.result.now so_too.0 given_too _ _ _ _ c.charge_run-in-Minus.ensures ran_too (still _ _)))
 
 pub run-returns-in_ok-write-in-Minus-clause-spent : goal.run-returns-in_ok-write-in-Minus-clause-spent
-run-returns-in_ok-write-in-Minus-clause-spent g t c = λ tell p is under there can clear.
+run-returns-in_ok-write-in-Minus-clause-spent g t c = λ tell p is under known there can clear.
     let env = lists_of c.args.sets.now.named.items in
     let left = c.in-Minus.left.value in
     let right = c.in-Minus.right.value in
@@ -518,105 +538,105 @@ run-returns-in_ok-write-in-Minus-clause-spent g t c = λ tell p is under there c
     let both = can_run_as same can in
     let first = subst (λ (s : Stmt). CanRun (statement_of s)) (sym c.deref-in-Minus.ensures) both.0 in
     let early = clear_before (λ x. g.met.W.Source.grows _ _ x c.run-in-Minus.ensures.later) clear in
-    let ran = subst (λ (s : Stmt). IsSpent (WorkOf tell p (statement_of s) env) c.args.meter.now.spent c.run.new.meter.spent) c.deref-in-Minus.ensures (c.in_ok-run-in-Minus.ensures.spent tell p is under there first early) in
+    let ran = subst (λ (s : Stmt). IsSpent (WorkOf tell p (statement_of s) env) c.args.meter.now.spent c.run.new.meter.spent) c.deref-in-Minus.ensures (c.in_ok-run-in-Minus.ensures.spent tell p is under known there first early) in
     let mid = lists_of c.run.new.sets.named.items in
-    let so = found_well (λ x used. used) early (subst (λ (s : Stmt). RanWell p (statement_of s) env mid (uses (g.W.Source.holds c.run.new.source) (g.W.Source.used c.args.source.now) (g.W.Source.used c.run.new.source)) (Ok c.in_ok-run-in-Minus.field-0)) c.deref-in-Minus.ensures (c.in_ok-run-in-Minus.ensures.answer p is under there first)) in
+    let so = found_well (λ x used. used) early (subst (λ (s : Stmt). RanWell p (statement_of s) env mid (AreAnswers p (g.W.Source.used c.run.new.source) c.run.new.memo.remembered.items) (uses (g.W.Source.holds c.run.new.source) (g.W.Source.used c.args.source.now) (g.W.Source.used c.run.new.source)) (Ok c.in_ok-run-in-Minus.field-0)) c.deref-in-Minus.ensures (c.in_ok-run-in-Minus.ensures.answer p is under known there first)) in
     let given : c.deref-in-Minus-3.result.now ≡ given_by (statement_of left) mid = c.deref-in-Minus-3.ensures ∙ c.in_ok-first-in-Minus.ensures ∙ ap (λ (s : Stmt). given_by (statement_of s) mid) c.deref-in-Minus-2.ensures in
     let second = subst (λ (s : Stmt). CanRun (statement_of s)) (sym c.deref-in-Minus-4.ensures) both.1 in
-    let there_too = after_there p.objects (statement_of left) env mid so there in
+    let there_too = after_there p.objects (statement_of left) env mid so.0 there in
     let under_too = g.met.W.Source.same_under _ _ p c.in_ok-run-in-Minus.ensures.later under in
-    let ran_too = subst (λ (s : Stmt). IsSpent (WorkOf tell p (statement_of s) mid) c.charge_run.new.self.spent c.run-in-Minus.new.meter.spent) c.deref-in-Minus-4.ensures (c.in_ok-run-in-Minus-2.ensures.spent tell p is under_too there_too second clear) in
+    let ran_too = subst (λ (s : Stmt). IsSpent (WorkOf tell p (statement_of s) mid) c.charge_run.new.self.spent c.run-in-Minus.new.meter.spent) c.deref-in-Minus-4.ensures (c.in_ok-run-in-Minus-2.ensures.spent tell p is under_too so.1 there_too second clear) in
     let end = lists_of c.run-in-Minus.new.sets.named.items in
-    let so_too = found_well (λ x used. used) clear (subst (λ (s : Stmt). RanWell p (statement_of s) mid end (uses (g.W.Source.holds c.run-in-Minus.new.source) (g.W.Source.used c.run.new.source) (g.W.Source.used c.run-in-Minus.new.source)) (Ok c.in_ok-run-in-Minus-2.field-0)) c.deref-in-Minus-4.ensures
-    (c.in_ok-run-in-Minus-2.ensures.answer p is under_too there_too second)) in
+    let so_too = found_well (λ x used. used) clear (subst (λ (s : Stmt). RanWell p (statement_of s) mid end (AreAnswers p (g.W.Source.used c.run-in-Minus.new.source) c.run-in-Minus.new.memo.remembered.items) (uses (g.W.Source.holds c.run-in-Minus.new.source) (g.W.Source.used c.run.new.source) (g.W.Source.used c.run-in-Minus.new.source)) (Ok c.in_ok-run-in-Minus-2.field-0)) c.deref-in-Minus-4.ensures
+    (c.in_ok-run-in-Minus-2.ensures.answer p is under_too so.1 there_too second)) in
     let given_too : c.written_by-second.result.now ≡ given_by (statement_of right) end = c.written_by-second.ensures ∙ ap (λ (s : Stmt). given_by (statement_of s) end) c.deref-in-Minus-5.ensures in
-    spent_as same tell p env _ _ (row_spent p.objects (statement_of left) env mid c.deref-in-Minus-3.result.now so given _ _ _ _ c.charge_run.ensures ran
-    (row_spent p.objects (statement_of right) mid end c.written_by-second.result.now so_too given_too _ _ _ _ c.charge_run-in-Minus.ensures ran_too (nothing_spent _)))
+    spent_as same tell p env _ _ (row_spent p.objects (statement_of left) env mid c.deref-in-Minus-3.result.now so.0 given _ _ _ _ c.charge_run.ensures ran
+    (row_spent p.objects (statement_of right) mid end c.written_by-second.result.now so_too.0 given_too _ _ _ _ c.charge_run-in-Minus.ensures ran_too (nothing_spent _)))
 
 pub run-returns-in-Print-clause-bounded : goal.run-returns-in-Print-clause-bounded
-run-returns-in-Print-clause-bounded g t c = λ tell p is under there can clear. absurd (can_run_as (ap statement_of c.in-Print.is) can)
+run-returns-in-Print-clause-bounded g t c = λ tell p is under known there can clear. absurd (can_run_as (ap statement_of c.in-Print.is) can)
 
 pub run-returns-in-Print-clause-spent : goal.run-returns-in-Print-clause-spent
-run-returns-in-Print-clause-spent g t c = λ tell p is under there can clear. absurd (can_run_as (ap statement_of c.in-Print.is) can)
+run-returns-in-Print-clause-spent g t c = λ tell p is under known there can clear. absurd (can_run_as (ap statement_of c.in-Print.is) can)
 
 pub run_all-returns-in_err-run-clause-bounded : goal.run_all-returns-in_err-run-clause-bounded
-run_all-returns-in_err-run-clause-bounded g t c = λ tell p is under there can clear.
+run_all-returns-in_err-run-clause-bounded g t c = λ tell p is under known there can clear.
     let env = lists_of c.args.sets.now.named.items in
     let mid = lists_of c.loop-part.sets.named.items in
     let parts = c.args.parts.now in
     let k = c.loop-part.part-index in
     let part = c.part-item.result in
     let early = clear_before (λ x. g.met.W.Source.grows _ _ x c.run.ensures.later) clear in
-    let going = going_at tell p parts env k mid _ _ part c.loop-part-test.true c.part-item.is (c.loop-part.invariant.going tell p is under there can early) in
-    let so = found_well (λ x used. used) early (c.loop-part.invariant.answer p is under there can) in
-    let there_now = (after_all_there p.objects (statements_of (take k parts)) env mid c.loop-part.given.items so there).0 in
+    let going = going_at tell p parts env k mid _ _ part c.loop-part-test.true c.part-item.is (c.loop-part.invariant.going tell p is under known there can early) in
+    let so = found_well (λ x used. used) early (c.loop-part.invariant.answer p is under known there can) in
+    let there_now = (after_all_there p.objects (statements_of (take k parts)) env mid c.loop-part.given.items so.0 there).0 in
     let under_now = g.met.W.Source.same_under _ _ p c.loop-part.invariant.later under in
     let can_now = one_lawful parts k part c.loop-part-test.true c.part-item.is can in
-    let first = c.run.ensures.bounded tell p is under_now there_now can_now clear in
+    let first = c.run.ensures.bounded tell p is under_now so.1 there_now can_now clear in
     going_stops tell p (statements_of parts) env (statement_of part) (statements_of (drop (k + 1) parts)) mid _ _ _ going first
 
 pub run_all-returns-in_err-charge_run-clause-bounded : goal.run_all-returns-in_err-charge_run-clause-bounded
-run_all-returns-in_err-charge_run-clause-bounded g t c = λ tell p is under there can clear.
+run_all-returns-in_err-charge_run-clause-bounded g t c = λ tell p is under known there can clear.
     let env = lists_of c.args.sets.now.named.items in
     let mid = lists_of c.loop-part.sets.named.items in
     let parts = c.args.parts.now in
     let k = c.loop-part.part-index in
     let part = c.part-item.result in
     let early = clear_before (λ x. g.met.W.Source.grows _ _ x c.run.ensures.later) clear in
-    let going = going_at tell p parts env k mid _ _ part c.loop-part-test.true c.part-item.is (c.loop-part.invariant.going tell p is under there can early) in
-    let so = found_well (λ x used. used) early (c.loop-part.invariant.answer p is under there can) in
-    let there_now = (after_all_there p.objects (statements_of (take k parts)) env mid c.loop-part.given.items so there).0 in
+    let going = going_at tell p parts env k mid _ _ part c.loop-part-test.true c.part-item.is (c.loop-part.invariant.going tell p is under known there can early) in
+    let so = found_well (λ x used. used) early (c.loop-part.invariant.answer p is under known there can) in
+    let there_now = (after_all_there p.objects (statements_of (take k parts)) env mid c.loop-part.given.items so.0 there).0 in
     let under_now = g.met.W.Source.same_under _ _ p c.loop-part.invariant.later under in
     let can_now = one_lawful parts k part c.loop-part-test.true c.part-item.is can in
-    let first = c.run.ensures.bounded tell p is under_now there_now can_now clear in
-    let after = found_well (λ x used. used) clear (c.in_ok-run.ensures.answer p is under_now there_now can_now) in
-    let next = going_next tell p (statements_of parts) env (statement_of part) (statements_of (drop (k + 1) parts)) mid _ _ _ going (lists_of c.run.new.sets.named.items) c.written_by-written.result.now _ after c.written_by-written.ensures c.charge_run.ensures first (c.in_ok-run.ensures.spent tell p is under_now there_now can_now clear) in
+    let first = c.run.ensures.bounded tell p is under_now so.1 there_now can_now clear in
+    let after = found_well (λ x used. used) clear (c.in_ok-run.ensures.answer p is under_now so.1 there_now can_now) in
+    let next = going_next tell p (statements_of parts) env (statement_of part) (statements_of (drop (k + 1) parts)) mid _ _ _ going (lists_of c.run.new.sets.named.items) c.written_by-written.result.now _ after.0 c.written_by-written.ensures c.charge_run.ensures first (c.in_ok-run.ensures.spent tell p is under_now so.1 there_now can_now clear) in
     going_bounded tell p (statements_of parts) env (statements_of (drop (k + 1) parts)) (lists_of c.run.new.sets.named.items) _ _ next
 
 pub run_all-returns-in_err-extend_from_slice-clause-bounded : goal.run_all-returns-in_err-extend_from_slice-clause-bounded
-run_all-returns-in_err-extend_from_slice-clause-bounded g t c = λ tell p is under there can clear.
+run_all-returns-in_err-extend_from_slice-clause-bounded g t c = λ tell p is under known there can clear.
     let env = lists_of c.args.sets.now.named.items in
     let mid = lists_of c.loop-part.sets.named.items in
     let parts = c.args.parts.now in
     let k = c.loop-part.part-index in
     let part = c.part-item.result in
     let early = clear_before (λ x. g.met.W.Source.grows _ _ x c.run.ensures.later) clear in
-    let going = going_at tell p parts env k mid _ _ part c.loop-part-test.true c.part-item.is (c.loop-part.invariant.going tell p is under there can early) in
-    let so = found_well (λ x used. used) early (c.loop-part.invariant.answer p is under there can) in
-    let there_now = (after_all_there p.objects (statements_of (take k parts)) env mid c.loop-part.given.items so there).0 in
+    let going = going_at tell p parts env k mid _ _ part c.loop-part-test.true c.part-item.is (c.loop-part.invariant.going tell p is under known there can early) in
+    let so = found_well (λ x used. used) early (c.loop-part.invariant.answer p is under known there can) in
+    let there_now = (after_all_there p.objects (statements_of (take k parts)) env mid c.loop-part.given.items so.0 there).0 in
     let under_now = g.met.W.Source.same_under _ _ p c.loop-part.invariant.later under in
     let can_now = one_lawful parts k part c.loop-part-test.true c.part-item.is can in
-    let first = c.run.ensures.bounded tell p is under_now there_now can_now clear in
-    let after = found_well (λ x used. used) clear (c.in_ok-run.ensures.answer p is under_now there_now can_now) in
-    let next = going_next tell p (statements_of parts) env (statement_of part) (statements_of (drop (k + 1) parts)) mid _ _ _ going (lists_of c.run.new.sets.named.items) c.written_by-written.result.now _ after c.written_by-written.ensures c.charge_run.ensures first (c.in_ok-run.ensures.spent tell p is under_now there_now can_now clear) in
+    let first = c.run.ensures.bounded tell p is under_now so.1 there_now can_now clear in
+    let after = found_well (λ x used. used) clear (c.in_ok-run.ensures.answer p is under_now so.1 there_now can_now) in
+    let next = going_next tell p (statements_of parts) env (statement_of part) (statements_of (drop (k + 1) parts)) mid _ _ _ going (lists_of c.run.new.sets.named.items) c.written_by-written.result.now _ after.0 c.written_by-written.ensures c.charge_run.ensures first (c.in_ok-run.ensures.spent tell p is under_now so.1 there_now can_now clear) in
     going_bounded tell p (statements_of parts) env (statements_of (drop (k + 1) parts)) (lists_of c.run.new.sets.named.items) _ _ next
 
 pub run_all-returns-clause-bounded : goal.run_all-returns-clause-bounded
-run_all-returns-clause-bounded g t c = λ tell p is under there can clear.
+run_all-returns-clause-bounded g t c = λ tell p is under known there can clear.
     let env = lists_of c.args.sets.now.named.items in
     let parts = c.args.parts.now in
     let k = c.loop-part.part-index in
-    going_bounded tell p (statements_of parts) env (statements_of (drop k parts)) _ _ _ (c.loop-part.invariant.going tell p is under there can clear)
+    going_bounded tell p (statements_of parts) env (statements_of (drop k parts)) _ _ _ (c.loop-part.invariant.going tell p is under known there can clear)
 
 pub run_all-returns-clause-spent : goal.run_all-returns-clause-spent
-run_all-returns-clause-spent g t c = λ tell p is under there can clear.
+run_all-returns-clause-spent g t c = λ tell p is under known there can clear.
     let env = lists_of c.args.sets.now.named.items in
     let parts = c.args.parts.now in
     let k = c.loop-part.part-index in
-    gone_all tell p parts env k _ _ _ c.loop-part-test.false (c.loop-part.invariant.going tell p is under there can clear)
+    gone_all tell p parts env k _ _ _ c.loop-part-test.false (c.loop-part.invariant.going tell p is under known there can clear)
 
 pub run_all-returns-clause-answer : goal.run_all-returns-clause-answer
-run_all-returns-clause-answer g t c = λ p is under there can.
+run_all-returns-clause-answer g t c = λ p is under known there can.
     let env = lists_of c.args.sets.now.named.items in
     let parts = c.args.parts.now in
     let all : take c.loop-part.part-index parts ≡ parts = take_all c.loop-part.part-index parts c.loop-part-test.false in
     outcome_as (parts_all p env parts c.loop-part.part-index)
     (λ so x needs. subst (λ (ps : List Stmt). NeededBy p (AskedByAll p (statements_of ps) env) x) (sym all) needs)
-    (λ so. subst (λ (ps : List Stmt). AfterAll p.objects (statements_of ps) env (lists_of c.loop-part.sets.named.items) c.loop-part.given.items) all so)
-    (c.loop-part.invariant.answer p is under there can)
+    (λ so. (subst (λ (ps : List Stmt). AfterAll p.objects (statements_of ps) env (lists_of c.loop-part.sets.named.items) c.loop-part.given.items) all so.0, so.1))
+    (c.loop-part.invariant.answer p is under known there can)
 
-pub run-select-requires-clause-asked : goal.run-select-requires-clause-asked
-run-select-requires-clause-asked g t c = λ r of.
+pub run-select_once-requires-clause-asked : goal.run-select_once-requires-clause-asked
+run-select_once-requires-clause-asked g t c = λ r of.
     c.requires.asked r (subst (λ (s : Statement). HasIdOf s r) (sym (ap statement_of c.in-Select.is)) (subst (λ (fs : List Filter). IsAskedById c.in-Select.kind (filters_of fs) r) c.deref.ensures.value of))
 
 pub run-note_all_asked-requires : goal.run-note_all_asked-requires
@@ -625,3 +645,6 @@ run-note_all_asked-requires g t c = λ r of. c.requires.asked r (union_asked c.a
 pub run_all-note_asked-requires : goal.run_all-note_asked-requires
 run_all-note_asked-requires g t c = λ r of.
     g.met.W.Source.still_may _ _ r c.loop-part.invariant.later (c.requires.asked r (part_asked c.args.parts.now c.loop-part.part-index c.part-item.result r c.loop-part-test.true c.part-item.is of))
+
+pub run-returns-in_ok-write_shared-in-Recurse-clause-recalled_named : goal.run-returns-in_ok-write_shared-in-Recurse-clause-recalled_named
+run-returns-in_ok-write_shared-in-Recurse-clause-recalled_named g t c = given_later _ _ c.args.memo.now.remembered.items (λ r. g.met.W.Source.same_gave _ _ r c.recurse_once.ensures.later) c.requires.recalled_named

@@ -11,6 +11,7 @@ use Rattle.ql_eval.specs.Faults.{cause_of_evaluation}
 use Rattle.ql_eval.specs.Questions.{NeededBy}
 use Rattle.ql_eval.specs.Work.{HasNoClash}
 use Rattle.ql_eval.specs.internal.Metering.{IsGoing}
+use Rattle.ql_eval.specs.internal.Recalling.{AreAnswers, AreAnswersGiven}
 use Rattle.ql_eval.specs.internal.Lawful.{CanRunAll}
 use Rattle.ql_eval.specs.internal.Links.{AreAllThere}
 use Rattle.ql_eval.proofs.run.+run.Given as goal
@@ -21,9 +22,10 @@ invariant-run_all-loop-part g l = record {
   walked : g.W.Source.walked l.fn.source l.source;
   sets_named : AllSetsGiven (g.W.Source.gave l.source) (lists_of l.sets.named.items);
   named : AllGiven (g.W.Source.gave l.source) l.given.items;
-  answer : (p : Publication) → IsPublication p → g.W.Source.under l.fn.source p → AreAllThere p.objects (lists_of l.fn.sets.named.items) → CanRunAll (statements_of l.parts)
-      → Outcome cause_of_evaluation (λ (_ : Unit {0}). AfterAll p.objects (statements_of (take l.part-index l.parts)) (lists_of l.fn.sets.named.items) (lists_of l.sets.named.items) l.given.items)
+  recalled_named : AreAnswersGiven (g.W.Source.gave l.source) l.memo.remembered.items;
+  answer : (p : Publication) → IsPublication p → g.W.Source.under l.fn.source p → AreAnswers p (g.W.Source.used l.fn.source) l.fn.memo.remembered.items → AreAllThere p.objects (lists_of l.fn.sets.named.items) → CanRunAll (statements_of l.parts)
+      → Outcome cause_of_evaluation (λ (_ : Unit {0}). AfterAll p.objects (statements_of (take l.part-index l.parts)) (lists_of l.fn.sets.named.items) (lists_of l.sets.named.items) l.given.items × AreAnswers p (g.W.Source.used l.source) l.memo.remembered.items)
       (NeededBy p (AskedByAll p (statements_of (take l.part-index l.parts)) (lists_of l.fn.sets.named.items))) (uses (g.W.Source.holds l.source) (g.W.Source.used l.fn.source) (g.W.Source.used l.source)) (Ok tt);
-  going : (tell : Telling) (p : Publication) → IsPublication p → g.W.Source.under l.fn.source p → AreAllThere p.objects (lists_of l.fn.sets.named.items) → CanRunAll (statements_of l.parts) → HasNoClash p (g.W.Source.used l.source)
+  going : (tell : Telling) (p : Publication) → IsPublication p → g.W.Source.under l.fn.source p → AreAnswers p (g.W.Source.used l.fn.source) l.fn.memo.remembered.items → AreAllThere p.objects (lists_of l.fn.sets.named.items) → CanRunAll (statements_of l.parts) → HasNoClash p (g.W.Source.used l.source)
       → IsGoing tell p (statements_of l.parts) (lists_of l.fn.sets.named.items) (statements_of (drop l.part-index l.parts)) (lists_of l.sets.named.items) l.fn.meter.spent l.meter.spent;
 }
