@@ -1,12 +1,10 @@
 //! The command `changes`.
 
-use crate::building::Building;
-use crate::clean_output::CleanOutput;
-use crate::in_words::{Subject, Trouble};
-use crate::one_file::are_one_file;
-use crate::output_file::OutputFile;
-use crate::telling::{quiet_file, refuse_one_file, report, trouble_of, watched_file};
 use osm_commands::{Status, changes};
+use system_files::{
+    Building, CleanOutput, OutputFile, Subject, Trouble, are_one_file, quiet_file, refuse_one_file,
+    report, trouble_of, watched_file,
+};
 
 /// Ends a file of changes with the root that they give, and tells that root. The file may not be that of the set.
 pub(crate) fn change_file(

@@ -2,10 +2,9 @@
 
 ghost use Rattle.osm_mirror.specs.Jobs.{IsCheck};
 
-use crate::in_words::Subject;
-use crate::telling::{quiet_file, report, trouble_of};
 use command_line::Job;
 use osm_commands::{Status, check};
+use system_files::{Subject, quiet_file, report, trouble_of};
 use tree_node::Digest;
 
 /// Starts `check`, as its job says.

@@ -2,9 +2,6 @@
 
 ghost use Rattle.osm_mirror.specs.Jobs.{IsFetch};
 
-use crate::clean_output::CleanOutput;
-use crate::in_words::{Subject, Trouble, tell_in_words};
-use crate::tcp_dial::TcpDial;
 use command_line::Job;
 use mirror_answer::MirrorFault;
 use osm_commands::{CommandFault, Status};
@@ -12,6 +9,8 @@ use osm_fetch::{NotFetched, fetch};
 use osm_forms::Form;
 use std::io;
 use std::io::{IsTerminal, Write};
+use system_files::{CleanOutput, Subject, Trouble, tell_in_words};
+use tcp_places::TcpDial;
 use tree_node::Digest;
 
 /// How many bytes answer and proof may have together, if no limit is given.

@@ -4,44 +4,25 @@
 //! files and its socket, tells of a fault and ends with the status.
 #![tactic(auto)]
 
-mod building;
 mod change_folder;
 mod changing;
 mod checking;
-mod clean_output;
 mod fetching;
-mod in_words;
-mod input_file;
-mod one_file;
-mod output_file;
-mod pack_file;
 mod packing;
-mod progress;
 mod proving;
 mod querying;
 mod relaying;
 mod root_file;
-mod server_errors;
 mod serving;
-mod tcp_dial;
-mod tcp_wires;
-mod telling;
-mod watched;
 
-use crate::building::Building;
 use crate::changing::change_file;
 use crate::checking::start_check;
-use crate::clean_output::CleanOutput;
 use crate::fetching::start_fetch;
-use crate::in_words::Subject;
 use crate::packing::pack_file;
-use crate::progress::Progress;
 use crate::proving::start_prove;
 use crate::querying::start_query;
 use crate::relaying::start_relay;
 use crate::serving::start_serve;
-use crate::telling::{NOTHING, report, trouble_of, watched_file};
-use crate::watched::Watched;
 use command_line::{Job, WordsFault, read_words};
 use osm_codes::explain;
 use osm_commands::{CommandFault, Status, ask, publish};
@@ -50,6 +31,9 @@ use osm_keys::Edition;
 use std::env;
 use std::io::{ErrorKind, IsTerminal, Write};
 use std::process::ExitCode;
+use system_files::{
+    Building, CleanOutput, NOTHING, Progress, Subject, Watched, report, trouble_of, watched_file,
+};
 
 /// What `clap` says of a word that isn't UTF-8. Such a word never gets as far as `clap` here.
 const NOT_TEXT: &str = "error: invalid UTF-8 was detected in one or more arguments\n";

@@ -1,14 +1,12 @@
 //! The command `pack`.
 
-use crate::building::Building;
-use crate::clean_output::CleanOutput;
-use crate::in_words::Subject;
-use crate::one_file::are_one_file;
-use crate::output_file::OutputFile;
-use crate::telling::{refuse_one_file, report, trouble_of, watched_file};
 use osm_commands::Status;
 use osm_keys::Edition;
 use osm_packs::pack;
+use system_files::{
+    Building, CleanOutput, OutputFile, Subject, are_one_file, refuse_one_file, report, trouble_of,
+    watched_file,
+};
 
 /// Writes the pack of the set of a file, and tells the root. The pack may not take the place of the set: that is refused before
 /// anything is read.

@@ -2,16 +2,14 @@
 
 ghost use Rattle.osm_mirror.specs.Jobs.{IsProve};
 
-use crate::building::Building;
-use crate::clean_output::CleanOutput;
-use crate::in_words::Subject;
-use crate::one_file::are_one_file;
-use crate::output_file::OutputFile;
-use crate::telling::{quiet_file, refuse_one_file, report, trouble_of, watched_file};
 use command_line::Job;
 use osm_commands::{CommandFault, Status, prove};
 use osm_keys::Edition;
 use std::fs;
+use system_files::{
+    Building, CleanOutput, OutputFile, Subject, are_one_file, quiet_file, refuse_one_file, report,
+    trouble_of, watched_file,
+};
 
 /// Starts `prove`, as its job says.
 pub(crate) fn start_prove(rt: &HostRuntime, job: Job) -> Status

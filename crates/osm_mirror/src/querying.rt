@@ -2,11 +2,6 @@
 
 ghost use Rattle.osm_mirror.specs.Jobs.{IsQuery};
 
-use crate::clean_output::CleanOutput;
-use crate::in_words::{Subject, tell_in_words};
-use crate::pack_file::PackFile;
-use crate::tcp_wires::TcpWires;
-use crate::telling::trouble_of;
 use command_line::Job;
 use http_ranges::{Address, HttpFile, NotGiven, Target, read_target};
 use node_pack::PackFault;
@@ -19,6 +14,8 @@ use std::alloc::AllocError;
 use std::cell::Cell;
 use std::io::{IsTerminal, Write};
 use std::str;
+use system_files::{CleanOutput, Subject, tell_in_words, trouble_of};
+use tcp_places::{PackFile, TcpWires};
 use tree_node::Digest;
 
 /// How many bytes of nodes a query may read, if no limit is given.

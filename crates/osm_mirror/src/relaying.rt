@@ -3,8 +3,6 @@
 ghost use Rattle.osm_mirror.specs.Jobs.{IsRelay};
 
 use crate::root_file::RootFile;
-use crate::server_errors::ServerErrors;
-use crate::telling::{NOTHING, port_refused, report};
 use command_line::Job;
 use osm_commands::{CommandFault, Status, WholeLines, root_line};
 use osm_relay::{RelayFault, Roots, relay_many};
@@ -12,6 +10,7 @@ use relay_sockets::{Mirror, MirrorError, Sockets};
 use std::alloc::AllocError;
 use std::io::{IsTerminal, Write};
 use std::net::SocketAddr;
+use system_files::{NOTHING, ServerErrors, port_refused, report};
 use tree_node::Digest;
 
 /// Starts `relay`, as its job says.

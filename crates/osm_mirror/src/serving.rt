@@ -4,11 +4,7 @@ ghost use Rattle.std.specs.Prelude.{◌≡◌};
 ghost use Rattle.osm_mirror.specs.Faults.{fault_of_traffic};
 ghost use Rattle.osm_mirror.specs.Jobs.{IsServe};
 
-use crate::building::Building;
 use crate::change_folder::ChangeFolder;
-use crate::in_words::{Subject, tell_in_words};
-use crate::server_errors::ServerErrors;
-use crate::telling::{NOTHING, port_refused, report, trouble_of, watched_file};
 use command_line::Job;
 use osm_commands::{CommandFault, Status, WholeLines, listening_line, read_snapshot};
 use osm_desk::Desk;
@@ -21,6 +17,10 @@ use std::io;
 use std::io::Write;
 use std::net::SocketAddr;
 use std::time::Duration;
+use system_files::{
+    Building, NOTHING, ServerErrors, Subject, port_refused, report, tell_in_words, trouble_of,
+    watched_file,
+};
 
 /// How often change files are looked for while connections are kept, in milliseconds.
 const LOOK_MILLISECONDS: u64 = 250;

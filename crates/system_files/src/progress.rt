@@ -9,7 +9,7 @@ const STEP: u64 = 4_194_304;
 /// How far the reading of a set is: one line of standard error, written again after every 4 MiB and taken away at the end.
 /// Where standard error is no terminal nothing is shown.
 #[derive(Drop)]
-pub(crate) struct Progress<'a> {
+pub struct Progress<'a> {
     rt: &'a HostRuntime,
     /// Whether there is anybody to show it to.
     is_shown: bool,
@@ -23,7 +23,7 @@ pub(crate) struct Progress<'a> {
 
 impl<'a> Progress<'a> {
     /// The progress of reading this file.
-    pub(crate) fn of_file(rt: &'a HostRuntime, path: &str) -> Progress<'a> {
+    pub fn of_file(rt: &'a HostRuntime, path: &str) -> Progress<'a> {
         let is_shown = rt.stderr().is_terminal();
         let mut len = 0;
         if is_shown {
@@ -41,7 +41,7 @@ impl<'a> Progress<'a> {
     }
 
     /// The progress of reading what has no known length.
-    pub(crate) fn of_stream(rt: &'a HostRuntime) -> Progress<'a> {
+    pub fn of_stream(rt: &'a HostRuntime) -> Progress<'a> {
         Progress {
             rt,
             is_shown: rt.stderr().is_terminal(),
@@ -52,7 +52,7 @@ impl<'a> Progress<'a> {
     }
 
     /// A progress that nobody sees.
-    pub(crate) fn none(rt: &'a HostRuntime) -> Progress<'a> {
+    pub fn none(rt: &'a HostRuntime) -> Progress<'a> {
         Progress {
             rt,
             is_shown: false,
@@ -63,7 +63,7 @@ impl<'a> Progress<'a> {
     }
 
     /// So many bytes more were read; none at the end.
-    pub(crate) fn advance(&mut self, count: u64) {
+    pub fn advance(&mut self, count: u64) {
         self.read = self.read.saturating_add(count);
         if !self.is_shown || self.next == u64::MAX {
             return;
@@ -78,7 +78,7 @@ impl<'a> Progress<'a> {
     }
 
     /// Takes the line away, if there is one.
-    pub(crate) fn clear(&mut self) {
+    pub fn clear(&mut self) {
         if self.is_shown && self.next > STEP {
             let _ = write!(self.rt.stderr(), "\r\x1b[2K");
         }

@@ -15,7 +15,7 @@ struct Place<'a> {
 }
 
 /// Whether a regular file, or one that isn't there yet, has both names. Pipes, terminals and the like may be named twice.
-pub(crate) fn are_one_file(rt: &HostRuntime, one: &str, other: &str) -> bool {
+pub fn are_one_file(rt: &HostRuntime, one: &str, other: &str) -> bool {
     match (place_of(rt, one), place_of(rt, other)) {
         (Some(one), Some(other)) => one == other,
         _ => false,

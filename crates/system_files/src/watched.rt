@@ -9,7 +9,7 @@ const FRONT: usize = 16;
 
 /// A reader that keeps its first bytes and what the system said of its last failure, and shows how far it is.
 #[derive(Drop)]
-pub(crate) struct Watched<'a, R> {
+pub struct Watched<'a, R> {
     reader: R,
     front: [u8; FRONT],
     front_len: usize,
@@ -19,7 +19,7 @@ pub(crate) struct Watched<'a, R> {
 
 impl<'a, R: Read> Watched<'a, R> {
     /// Watches a reader from its beginning.
-    pub(crate) fn new(reader: R, progress: Progress<'a>) -> Watched<'a, R> {
+    pub fn new(reader: R, progress: Progress<'a>) -> Watched<'a, R> {
         Watched {
             reader,
             front: [0; FRONT],
@@ -30,18 +30,18 @@ impl<'a, R: Read> Watched<'a, R> {
     }
 
     /// The first bytes that it gave, at most sixteen.
-    pub(crate) fn front(&self) -> &[u8] {
+    pub fn front(&self) -> &[u8] {
         let len = self.front_len.min(FRONT);
         &self.front[..len]
     }
 
     /// The system's number of its last failure.
-    pub(crate) fn error(&self) -> Option<i32> {
+    pub fn error(&self) -> Option<i32> {
         self.error
     }
 
     /// Takes away the line that shows how far it is.
-    pub(crate) fn clear(&mut self) {
+    pub fn clear(&mut self) {
         self.progress.clear();
     }
 

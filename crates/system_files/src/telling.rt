@@ -9,14 +9,14 @@ use std::io;
 use std::io::{ErrorKind, IsTerminal, Write};
 
 /// No input, no query, no file.
-pub(crate) const NOTHING: Subject<'static> = Subject {
+pub const NOTHING: Subject<'static> = Subject {
     front: &[],
     query: &[],
     troubles: &[],
 };
 
 /// How the program ends after a command. A fault is told in one line, and then in words where somebody looks.
-pub(crate) fn report(
+pub fn report(
     rt: &HostRuntime,
     outcome: Result<(), CommandFault>,
     subject: &Subject<'_>,
@@ -33,7 +33,7 @@ pub(crate) fn report(
 }
 
 /// How the program ends where one file has two names that a command may not have for one file.
-pub(crate) fn refuse_one_file(rt: &HostRuntime, name: &str, other: &str) -> Status {
+pub fn refuse_one_file(rt: &HostRuntime, name: &str, other: &str) -> Status {
     let fault = CommandFault::Device;
     let errors = &mut rt.stderr();
     // Where standard error takes nothing, the status still tells.
@@ -48,22 +48,22 @@ pub(crate) fn refuse_one_file(rt: &HostRuntime, name: &str, other: &str) -> Stat
 }
 
 /// What the system said of a file or a socket of this name.
-pub(crate) fn trouble_of(name: &str, error: Option<i32>) -> Trouble<'_> {
+pub fn trouble_of(name: &str, error: Option<i32>) -> Trouble<'_> {
     Trouble { name, error }
 }
 
 /// A file whose reading is shown on a terminal.
-pub(crate) fn watched_file<'a>(rt: &'a HostRuntime, path: &'a str) -> Watched<'a, InputFile<'a>> {
+pub fn watched_file<'a>(rt: &'a HostRuntime, path: &'a str) -> Watched<'a, InputFile<'a>> {
     Watched::new(InputFile::new(rt, path), Progress::of_file(rt, path))
 }
 
 /// A file whose reading isn't shown.
-pub(crate) fn quiet_file<'a>(rt: &'a HostRuntime, path: &'a str) -> Watched<'a, InputFile<'a>> {
+pub fn quiet_file<'a>(rt: &'a HostRuntime, path: &'a str) -> Watched<'a, InputFile<'a>> {
     Watched::new(InputFile::new(rt, path), Progress::none(rt))
 }
 
 /// How the program ends where it can't listen on this port. It says on which, and what the system says of that.
-pub(crate) fn port_refused(rt: &HostRuntime, port: u16, error: &io::Error) -> Status {
+pub fn port_refused(rt: &HostRuntime, port: u16, error: &io::Error) -> Status {
     let fault = match error.kind() {
         ErrorKind::OutOfMemory => CommandFault::Memory,
         _ => CommandFault::Device,

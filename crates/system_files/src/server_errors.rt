@@ -9,13 +9,13 @@ use std::os::fd::AsRawFd;
 
 /// Standard error, which may be a pipe that nobody reads: it says whether a write would be kept waiting.
 #[derive(Drop)]
-pub(crate) struct ServerErrors {
+pub struct ServerErrors {
     output: Stderr,
 }
 
 impl ServerErrors {
     /// The program's standard error.
-    pub(crate) fn new(rt: &HostRuntime) -> ServerErrors {
+    pub fn new(rt: &HostRuntime) -> ServerErrors {
         ServerErrors {
             output: rt.stderr(),
         }

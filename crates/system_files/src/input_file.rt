@@ -10,7 +10,7 @@ use std::marker::Model;
 /// A file that is opened when it is first read, so that each file's turn comes when the command reads it. A
 /// file that can't be opened is a reader that fails. Contracts see its path.
 #[derive(Drop)]
-pub(crate) struct InputFile<'a> {
+pub struct InputFile<'a> {
     rt: &'a HostRuntime,
     path: &'a str,
     file: Option<File>,
@@ -26,7 +26,7 @@ impl<'a> Model for InputFile<'a> {
 
 impl<'a> InputFile<'a> {
     /// The file with this name, not opened yet.
-    pub(crate) fn new(rt: &'a HostRuntime, path: &'a str) -> InputFile<'a>
+    pub fn new(rt: &'a HostRuntime, path: &'a str) -> InputFile<'a>
         ensures { result ≡ path.now }
     {
         InputFile {

@@ -18,7 +18,7 @@ const NAME_LIMIT: u32 = 100;
 /// link, a pipe or a terminal, is written as it stands. A file that can't be made is a writer that fails. Contracts see its
 /// path.
 #[derive(Drop)]
-pub(crate) struct OutputFile<'a> {
+pub struct OutputFile<'a> {
     rt: &'a HostRuntime,
     path: &'a str,
     file: Option<File>,
@@ -38,7 +38,7 @@ impl<'a> Model for OutputFile<'a> {
 
 impl<'a> OutputFile<'a> {
     /// The file with this name, not made yet.
-    pub(crate) fn new(rt: &'a HostRuntime, path: &'a str) -> OutputFile<'a>
+    pub fn new(rt: &'a HostRuntime, path: &'a str) -> OutputFile<'a>
         ensures { result ≡ path.now }
     {
         OutputFile {
@@ -51,7 +51,7 @@ impl<'a> OutputFile<'a> {
     }
 
     /// What the system said of the file's last failure.
-    pub(crate) fn trouble(&self) -> Trouble<'a> {
+    pub fn trouble(&self) -> Trouble<'a> {
         Trouble {
             name: self.path,
             error: self.error,
@@ -59,7 +59,7 @@ impl<'a> OutputFile<'a> {
     }
 
     /// Removes what was written and isn't in its place.
-    pub(crate) fn discard(&mut self) {
+    pub fn discard(&mut self) {
         if let Some(name) = self.aside.take() {
             // Where it can't be removed, the file that was there stays all the same.
             let _ = fs::remove_file(self.rt, &name);

@@ -9,7 +9,7 @@ const SHOWN_FROM: usize = 50_000;
 
 /// The line of standard error that says which tree is being built. Where standard error is no terminal nothing is shown.
 #[derive(Drop)]
-pub(crate) struct Building<'a> {
+pub struct Building<'a> {
     rt: &'a HostRuntime,
     /// Whether a line stands there.
     is_shown: bool,
@@ -17,7 +17,7 @@ pub(crate) struct Building<'a> {
 
 impl<'a> Building<'a> {
     /// Nothing is built yet.
-    pub(crate) fn new(rt: &'a HostRuntime) -> Building<'a> {
+    pub fn new(rt: &'a HostRuntime) -> Building<'a> {
         Building {
             rt,
             is_shown: false,
@@ -25,7 +25,7 @@ impl<'a> Building<'a> {
     }
 
     /// Takes the line away, if there is one.
-    pub(crate) fn clear(&mut self) {
+    pub fn clear(&mut self) {
         if self.is_shown {
             let _ = write!(self.rt.stderr(), "\r\x1b[2K");
             self.is_shown = false;

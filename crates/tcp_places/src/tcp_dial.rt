@@ -19,7 +19,7 @@ const RETRY_LIMIT: u32 = 1000;
 
 /// A mirror at a place `HOST:PORT`, over one connection at a time.
 #[derive(Drop)]
-pub(crate) struct TcpDial<'a> {
+pub struct TcpDial<'a> {
     rt: &'a HostRuntime,
     place: &'a str,
     /// How long the first byte of a response may take, in seconds.
@@ -34,12 +34,12 @@ pub(crate) struct TcpDial<'a> {
 
 impl<'a> TcpDial<'a> {
     /// Nothing is opened yet.
-    pub(crate) fn new(rt: &'a HostRuntime, place: &'a str) -> TcpDial<'a> {
+    pub fn new(rt: &'a HostRuntime, place: &'a str) -> TcpDial<'a> {
         TcpDial::of_patience(rt, place, ANSWER_SECONDS)
     }
 
     /// A place that only reads what it answers: the first byte may take no longer than the next ones.
-    pub(crate) fn of_files(rt: &'a HostRuntime, place: &'a str) -> TcpDial<'a> {
+    pub fn of_files(rt: &'a HostRuntime, place: &'a str) -> TcpDial<'a> {
         TcpDial::of_patience(rt, place, CALL_SECONDS)
     }
 
@@ -56,12 +56,12 @@ impl<'a> TcpDial<'a> {
     }
 
     /// What the system said of the last call that failed.
-    pub(crate) fn error(&self) -> Option<i32> {
+    pub fn error(&self) -> Option<i32> {
         self.error
     }
 
     /// A further response is awaited: its pace is counted from its first byte on.
-    pub(crate) fn begin(&mut self) {
+    pub fn begin(&mut self) {
         self.begun = None;
         self.received = 0;
     }

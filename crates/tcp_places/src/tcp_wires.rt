@@ -8,7 +8,7 @@ use std::cell::Cell;
 /// The connections to a server of files at a place `HOST:PORT`. What the system said of the last call that failed is left where
 /// the caller sees it.
 #[derive(Drop)]
-pub(crate) struct TcpWires<'a> {
+pub struct TcpWires<'a> {
     rt: &'a HostRuntime,
     place: &'a str,
     dials: Vec<TcpDial<'a>>,
@@ -17,11 +17,7 @@ pub(crate) struct TcpWires<'a> {
 
 impl<'a> TcpWires<'a> {
     /// Nothing is opened yet.
-    pub(crate) fn new(
-        rt: &'a HostRuntime,
-        place: &'a str,
-        error: &'a Cell<Option<i32>>,
-    ) -> TcpWires<'a> {
+    pub fn new(rt: &'a HostRuntime, place: &'a str, error: &'a Cell<Option<i32>>) -> TcpWires<'a> {
         TcpWires {
             rt,
             place,

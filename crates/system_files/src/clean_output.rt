@@ -9,7 +9,7 @@ use std::io::{IsTerminal, Stdout, Write};
 /// Standard output. Standard error may be the same terminal, so the line there that shows how far a command is is taken
 /// away before the first byte is written.
 #[derive(Drop)]
-pub(crate) struct CleanOutput<'a> {
+pub struct CleanOutput<'a> {
     rt: &'a HostRuntime,
     output: Stdout,
     is_written: bool,
@@ -17,7 +17,7 @@ pub(crate) struct CleanOutput<'a> {
 
 impl<'a> CleanOutput<'a> {
     /// Nothing is written yet.
-    pub(crate) fn new(rt: &'a HostRuntime) -> CleanOutput<'a> {
+    pub fn new(rt: &'a HostRuntime) -> CleanOutput<'a> {
         CleanOutput {
             rt,
             output: rt.stdout(),

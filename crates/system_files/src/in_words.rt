@@ -8,27 +8,27 @@ use std::io::{IsTerminal, Write};
 
 /// What the system said of a file or a socket.
 #[derive(Clone, Copy)]
-pub(crate) struct Trouble<'a> {
+pub struct Trouble<'a> {
     /// The file's name, or what the socket is for.
-    pub(crate) name: &'a str,
+    pub name: &'a str,
     /// The system's number of the last failure.
-    pub(crate) error: Option<i32>,
+    pub error: Option<i32>,
 }
 
 /// What a fault can be about.
 #[derive(Clone, Copy)]
-pub(crate) struct Subject<'a> {
+pub struct Subject<'a> {
     /// The first bytes of the OPL input.
-    pub(crate) front: &'a [u8],
+    pub front: &'a [u8],
     /// The text of the query.
-    pub(crate) query: &'a [u8],
+    pub query: &'a [u8],
     /// The files and sockets that were used.
-    pub(crate) troubles: &'a [Trouble<'a>],
+    pub troubles: &'a [Trouble<'a>],
 }
 
 /// Says what a fault means, on standard error, where that is a terminal: a program that reads the fault's line on a pipe
 /// sees nothing else. Where memory runs out for these words, they are left out.
-pub(crate) fn tell_in_words(rt: &HostRuntime, fault: CommandFault, subject: &Subject<'_>) {
+pub fn tell_in_words(rt: &HostRuntime, fault: CommandFault, subject: &Subject<'_>) {
     let errors = &mut rt.stderr();
     if !errors.is_terminal() {
         return;

@@ -9,7 +9,7 @@ use std::os::unix::fs::FileExt;
 /// that can't be opened is a device that fails. What the system said of the call that failed last is left where the caller
 /// sees it.
 #[derive(Drop)]
-pub(crate) struct PackFile<'a> {
+pub struct PackFile<'a> {
     rt: &'a HostRuntime,
     path: &'a str,
     file: Option<File>,
@@ -18,11 +18,7 @@ pub(crate) struct PackFile<'a> {
 
 impl<'a> PackFile<'a> {
     /// The file with this name, not opened yet.
-    pub(crate) fn new(
-        rt: &'a HostRuntime,
-        path: &'a str,
-        error: &'a Cell<Option<i32>>,
-    ) -> PackFile<'a> {
+    pub fn new(rt: &'a HostRuntime, path: &'a str, error: &'a Cell<Option<i32>>) -> PackFile<'a> {
         PackFile {
             rt,
             path,
