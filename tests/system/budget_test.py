@@ -1,6 +1,6 @@
 """Budgets for the work of a query: `serve --max-work` refuses at once what would take long, and serves on; on each side of a
 query's work all mirrors of a set say the same; `check --max-work` has no verdict on what takes more, and `fetch` and `relay`
-give no answer."""
+give no answer. And what needs no budget: a query that asks the same again and again."""
 
 import shutil
 import socket
@@ -68,6 +68,13 @@ ATTACKS = {
     "ids": repeated(b"node(id:" + b",".join(b"%d" % number for number in range(1, NODES // 2)) + b");", b'node["a"];out;'),
 }
 
+# Statements that a query may ask again and again over the same sets, without a budget: each takes tens of milliseconds the
+# first time, and a query has room for thousands of them.
+AGAIN = [
+    b".a<;", b".a>>;", b"node(-90,-180,90,180);", b'node["b"!="c"];', b'node.a["a"="1"]["b"!="c"];', b'way(bn.a)["c"!="d"];',
+    b'(node["b"!="c"];way(bn.a););', b'(node["b"!="c"];-node.a["a"="2"];);',
+]
+
 # Queries that the budget has room for.
 WITHIN = [b"", SMALL, b"node(1);way(bn);out;", b"way(3);>;out ids;", b'node["a"];out ids 5;', b"node(id:1,2,20000,20001);out meta;"]
 
@@ -126,6 +133,20 @@ def check_attacks(tally, file):
                     attacker.shutdown(socket.SHUT_WR)
                     got, took = all_of(attacker), time.monotonic() - begun
                     tally.check(f"{name} at {path}", got == TOO_MUCH + small and took < AT_ONCE, took, got[:300])
+
+
+def check_again(tally, file):
+    """What is asked again over the same sets isn't evaluated again: thousands of statements take little longer than one."""
+    begun, ended = b'node["a"]->.a;', b"out ids 3;"
+    with server(file) as free:
+        for statement in AGAIN:
+            want = told(free, [asks(begun + statement + ended)])
+            tally.check(f"{statement} is answered", want.startswith(b"HTTP/1.1 200 OK\r\n"), want[:300])
+            query = repeated(begun, statement, ended)
+            since = time.monotonic()
+            got = told(free, [asks(query)])
+            took = time.monotonic() - since
+            tally.check(f"{statement} {len(query) // len(statement)} times", got == want and took < AT_ONCE, took, got[:300])
 
 
 def check_within(tally, file):
@@ -247,6 +268,7 @@ def main():
         file = Path(room) / "set.opl"
         file.write_text(set_text(), encoding="ascii")
         check_attacks(tally, file)
+        check_again(tally, file)
         check_within(tally, file)
     check_nginx(tally)
     tally.end()
