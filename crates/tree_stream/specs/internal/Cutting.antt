@@ -1,0 +1,33 @@
+-- How far the cutting of a list into pieces has come.
+use Rattle.std.specs.Prelude.{ℕ, zero, suc, ◌+◌, List, [], ◌∷◌, ◌++◌, length, map, Bool, if◌then◌else◌}
+use Rattle.tree_node.specs.Nodes.{Binding, Link, Node, Leaf, Inner}
+use Rattle.tree_node.specs.Trees.{Shape, ends_by, is_marked_entry, is_marked_link, link_to}
+
+-- what is pending once these items have come, where this was pending before
+abbrev pub pending_after : {X : Type 0} → (ℕ → X → Bool) → List X → List X → List X
+pending_after ends pending [] = pending
+pending_after ends pending (x ∷ xs) = if ends (length pending + 1) x then pending_after ends [] xs else pending_after ends (pending ++ x ∷ []) xs
+
+-- the pieces that have ended by then
+abbrev pub done_by : {X : Type 0} → (ℕ → X → Bool) → List X → List X → List (List X)
+done_by ends pending [] = []
+done_by ends pending (x ∷ xs) = if ends (length pending + 1) x then (pending ++ x ∷ []) ∷ done_by ends [] xs else done_by ends (pending ++ x ∷ []) xs
+
+-- the entries that are pending, and the leaves that are done
+abbrev pub entries_left : Shape → List Binding → List Binding
+entries_left shape entries = pending_after (ends_by shape is_marked_entry) [] entries
+
+abbrev pub leaves_done : Shape → ℕ → List Binding → List Node
+leaves_done shape tree entries = map (Leaf tree) (done_by (ends_by shape is_marked_entry) [] entries)
+
+-- the items over these nodes that are pending, and the nodes of this level that are done
+abbrev pub links_left : Shape → List Node → List Link
+links_left shape nodes = pending_after (ends_by shape is_marked_link) [] (map link_to nodes)
+
+abbrev pub inner_done : Shape → ℕ → ℕ → List Node → List Node
+inner_done shape tree level nodes = map (Inner tree level) (done_by (ends_by shape is_marked_link) [] (map link_to nodes))
+
+-- the nodes that are done so many levels above these, which are of this level
+abbrev pub done_above : Shape → ℕ → ℕ → List Node → ℕ → List Node
+done_above shape tree at nodes zero = nodes
+done_above shape tree at nodes (suc up) = done_above shape tree (at + 1) (inner_done shape tree (at + 1) nodes) up
