@@ -1,0 +1,4 @@
+pub mod Records
+pub mod Runs
+pub mod Sorting
+pub mod internal

@@ -1,0 +1,48 @@
+//! Where runs are kept.
+
+ghost use Rattle.std.specs.Prelude.{◌≡◌, ◌≤◌, ◌<◌, ◌+◌, ◌++◌, ◌∷◌, ℕ, Bool, List, [], IsOk, OnOk, drop, false, length, take};
+ghost use Rattle.external_sort.specs.Runs.{run_at};
+
+use thiserror::Error;
+
+/// The device of a store failed.
+#[derive(Clone, Copy, Debug, PartialEq, Eq, Error)]
+#[error("device")]
+pub struct StoreFault;
+
+/// A device that keeps runs of bytes: those that were ended, by their numbers from 0 on, and one in hand.
+///
+/// The clauses say what a store has been told; that its device gives back just that is an assumption about the device,
+/// which no clause can show. After a refusal nothing is known of what the store keeps.
+pub trait RunStore: Drop {
+    /// The bytes of the runs that were ended, in order.
+    ghost runs: { Self → List (List ℕ) };
+
+    /// The bytes of the run in hand.
+    ghost in_hand: { Self → List ℕ };
+
+    /// Whether a call may be refused that asks for what there is. Of a device it may.
+    ghost may_refuse: { Bool };
+
+    /// Adds bytes to the run in hand.
+    fn append(&mut self, bytes: &[u8]) -> Result<(), StoreFault>
+        ensures in_hand { OnOk result (in_hand self.new ≡ in_hand self.old ++ bytes.now) }
+        ensures runs { OnOk result (runs self.new ≡ runs self.old) }
+        ensures given { may_refuse ≡ false → IsOk result };
+
+    /// Ends the run in hand, which is the next of the runs. The one in hand is empty then.
+    fn end_run(&mut self) -> Result<(), StoreFault>
+        ensures runs { OnOk result (runs self.new ≡ runs self.old ++ in_hand self.old ∷ []) }
+        ensures in_hand { OnOk result (in_hand self.new ≡ []) }
+        ensures given { may_refuse ≡ false → IsOk result };
+
+    /// Reads the bytes of a run from an offset on, as many as `into` has. Refused where the run has fewer, or where there
+    /// is no such run.
+    fn read(&mut self, run: usize, offset: u64, into: &mut [u8]) -> Result<(), StoreFault>
+        ensures read { OnOk result
+            (into.new ≡ take (length into.old) (drop offset (run_at run (runs self.old)))) }
+        ensures runs { OnOk result (runs self.new ≡ runs self.old) }
+        ensures in_hand { OnOk result (in_hand self.new ≡ in_hand self.old) }
+        ensures given { may_refuse ≡ false → run < length (runs self.old) →
+            offset + length into.old ≤ length (run_at run (runs self.old)) → IsOk result };
+}
