@@ -111,7 +111,7 @@ fn other_bytes_are_no_fine_cell(rt: HostRuntime) {
     assert_eq!(rt; found.map(|cell| cell.row), Some(0));
     assert!(rt; read_fine_cell(pole, &value).is_some());
     let keys: [&[u8]; 4] = [
-        &pole[..13],
+        b"\x46\x50\xd6\x93\xa4\0\x80\0\0\0\0\0\0",
         b"\x46\x50\xd6\x93\xa4\0\x80\0\0\0\0\0\0\x01\0",
         // Row 18001, and a column more than the last.
         b"\x46\x51\xd6\x93\xa4\0\x80\0\0\0\0\0\0\x01",
@@ -120,10 +120,10 @@ fn other_bytes_are_no_fine_cell(rt: HostRuntime) {
     for key in keys {
         assert_eq!(rt; read_fine_cell(key, &value), None);
     }
-    let mut long = [7; 37];
-    long[..36].copy_from_slice(&value);
-    assert_eq!(rt; read_fine_cell(pole, &value[..35]), None);
-    assert_eq!(rt; read_fine_cell(pole, &long), None);
+    // The latitude 117,901,063 (07070707) and a digest, and other lengths.
+    assert!(rt; read_fine_cell(pole, &[7; 36]).is_some());
+    assert_eq!(rt; read_fine_cell(pole, &[7; 35]), None);
+    assert_eq!(rt; read_fine_cell(pole, &[7; 37]), None);
     assert_eq!(rt;
         read_fine_cell(pole, &fine_cell_value(900_000_001, &Digest([7; 32]))),
         None
@@ -151,8 +151,10 @@ fn manifests_have_141_bytes_also_where_memory_was_refused(rt: HostRuntime) -> Re
     assert_eq!(rt; bytes[13], 1);
     assert_eq!(rt; bytes[140], 4);
     assert_eq!(rt; read_light_manifest(&bytes), Some(manifest));
-    assert_eq!(rt; read_light_manifest(&bytes[..140]), None);
     bytes[4] = 2;
+    assert_eq!(rt; read_light_manifest(&bytes), None);
+    bytes[4] = 3;
+    bytes.pop();
     assert_eq!(rt; read_light_manifest(&bytes), None);
     Ok(())
 }
@@ -214,11 +216,20 @@ fn boxes_have_these_ranges(rt: HostRuntime) -> Result<(), Fail> {
     Ok(())
 }
 
+/// How many ranges there are.
+fn number_of(ranges: FineRanges) -> u32 {
+    let mut number: u32 = 0;
+    for _ in ranges {
+        number = number.saturating_add(1);
+    }
+    number
+}
+
 #[test]
 fn the_earth_has_18001_rows(rt: HostRuntime) -> Result<(), Fail> {
     let earth = FineRanges::of(&box_of(["-90", "-180", "90", "180"])?);
-    assert_eq!(rt; earth.count(), 18_001);
+    assert_eq!(rt; number_of(earth), 18_001);
     let two_a_row = FineRanges::of(&box_of(["-90", "180", "90", "-180"])?);
-    assert_eq!(rt; two_a_row.count(), 36_002);
+    assert_eq!(rt; number_of(two_a_row), 36_002);
     Ok(())
 }
