@@ -64,3 +64,31 @@ moved runs r s w after (e ∷ es) fit h same long key end within rest_is run len
         len = len ∙ h.len ∙ ap (λ (n : ℕ). length (run_at n runs)) (sym run);
       },
     )
+
+-- ---- what a store has to give
+
+-- where something is left, the lengths of a record are
+pub header_there : (runs : List (List ℕ)) (r : RunReader) (w : List ℕ) (es : List Entry) → HasLeft runs r es → w ≡ drop r.record_end r.window → 1 ≤ length (w ++ drop r.offset (run_at r.run runs))
+    → 6 ≤ length (w ++ drop r.offset (run_at r.run runs))
+header_there runs r w es h is some = at es (ap (λ (l : List ℕ). l ++ drop r.offset (run_at r.run runs)) is ∙ h.text)
+  where
+    at : (fs : List Entry) → w ++ drop r.offset (run_at r.run runs) ≡ flat_map spelled fs → 6 ≤ length (w ++ drop r.offset (run_at r.run runs))
+    at [] e = absurd (omega (arith, some, ap length e))
+    at (f ∷ fs) e = omega (arith, ap length e, length-append (spelled f) (flat_map spelled fs), spelled_len f)
+
+-- where its lengths were read, the whole record is
+pub record_there : (runs : List (List ℕ)) (r : RunReader) (w after : List ℕ) (key_end record_end : ℕ) (es : List Entry) → All Fits es → HasLeft runs r es
+    → w ++ after ≡ drop r.record_end r.window ++ drop r.offset (run_at r.run runs)
+    → 6 ≤ length w
+    → key_end ≡ 6 + from_be_bytes w16 (take 2 w)
+    → record_end ≡ key_end + from_be_bytes w32 (take 4 (drop 2 w))
+    → record_end ≤ length (w ++ after)
+record_there runs r w after key_end record_end [] fit h same long key end =
+    absurd (omega (arith, ap length (same ∙ h.text), length-append w after, long))
+record_there runs r w after key_end record_end (e ∷ es) fit h same long key end =
+    let fits = All-head Fits e es fit in
+    let tail = flat_map spelled es in
+    let text : w ++ after ≡ spelled e ++ tail = same ∙ h.text in
+    let kl = key_len_read w after e tail fits text long in
+    let vl = value_len_read w after e tail fits text long in
+    omega (arith, key, end, kl, vl, ap length text, length-append (spelled e) tail, spelled_len e)

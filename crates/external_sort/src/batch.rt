@@ -18,7 +18,7 @@ use std::marker::Model;
 
 /// Records in memory, in one buffer. Contracts see them in their order.
 #[derive(Drop)]
-pub struct Batch {
+pub(crate) struct Batch {
     bytes: Vec<u8>,
     places: Vec<Place>,
 }
@@ -37,7 +37,7 @@ impl Model for Batch {
 
 impl Batch {
     /// No records. It takes no memory.
-    pub fn new(alloc: Global) -> Batch
+    pub(crate) fn new(alloc: Global) -> Batch
         ensures { result ≡ [] }
     {
         Batch {
@@ -47,28 +47,28 @@ impl Batch {
     }
 
     /// How many records there are.
-    pub fn len(&self) -> usize
+    pub(crate) fn len(&self) -> usize
         ensures { result ≡ length self.now }
     {
         self.places.len()
     }
 
     /// How many bytes the records take in a run.
-    pub fn bytes_len(&self) -> usize
+    pub(crate) fn bytes_len(&self) -> usize
         ensures { result ≡ length (flat_map spelled self.now) }
     {
         self.bytes.len()
     }
 
     /// How much memory the records take, with their places.
-    pub fn size(&self) -> usize {
+    pub(crate) fn size(&self) -> usize {
         self.bytes
             .len()
             .saturating_add(self.places.len().saturating_mul(size_of::<Place>()))
     }
 
     /// Adds a record. Where memory is refused the records stay.
-    pub fn push(&mut self, key: &[u8], value: &[u8]) -> Result<(), AllocError>
+    pub(crate) fn push(&mut self, key: &[u8], value: &[u8]) -> Result<(), AllocError>
         requires { Fits (entry key.now value.now) }
         ensures pushed { OnOk result (self.new ≡ self.old ++ entry key.now value.now ∷ []) }
         ensures kept { OnErr result (self.new ≡ self.old) }
@@ -84,7 +84,7 @@ impl Batch {
     }
 
     /// Sorts the records by their keys, in n log n steps and without memory of its own. Those with one key come in any order.
-    pub fn sort(&mut self)
+    pub(crate) fn sort(&mut self)
         ensures permutation { IsPermutation self.old self.new }
         ensures rises { Rises self.new }
         ensures fit { All Fits self.new }
@@ -93,7 +93,7 @@ impl Batch {
     }
 
     /// Adds the records to the run in hand.
-    pub fn write<S: RunStore>(&self, store: &mut S) -> Result<(), SortFault>
+    pub(crate) fn write<S: RunStore>(&self, store: &mut S) -> Result<(), SortFault>
         ensures in_hand { OnOk result
             (S.in_hand store.new ≡ S.in_hand store.old ++ flat_map spelled self.now) }
         ensures runs { OnOk result (S.runs store.new ≡ S.runs store.old) }
@@ -108,7 +108,7 @@ impl Batch {
     }
 
     /// A record, by its number from 0 on.
-    pub fn record(&self, at: usize) -> Record<'_>
+    pub(crate) fn record(&self, at: usize) -> Record<'_>
         requires { at < length self.now }
         ensures { slice_get self.now at ≡ Some (entry result.key.now result.value.now) }
     {
@@ -120,7 +120,7 @@ impl Batch {
     }
 
     /// Drops the records, and keeps the memory.
-    pub fn clear(&mut self)
+    pub(crate) fn clear(&mut self)
         ensures { self.new ≡ [] }
     {
         self.bytes.clear();

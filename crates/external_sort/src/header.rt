@@ -7,7 +7,7 @@ use crate::spelling::HEADER_LEN;
 
 /// Where the key of the record ends with which the bytes begin, and where the record ends; none where not even its lengths
 /// are there.
-pub fn read_header(bytes: &[u8]) -> Option<(usize, usize)>
+pub(crate) fn read_header(bytes: &[u8]) -> Option<(usize, usize)>
     ensures { MatchOption result (length bytes.now < 6)
         (λ ends. (ends.0 ≡ 6 + from_be_bytes w16 (take 2 bytes.now))
         × (ends.1 ≡ ends.0 + from_be_bytes w32 (take 4 (drop 2 bytes.now)))) }

@@ -26,6 +26,6 @@ mod write_run;
 
 pub use fault::SortFault;
 pub use record::Record;
-pub use run_store::{RunStore, StoreFault};
+pub use run_store::{RunStore, StoreFault, StoreMaker};
 pub use sorted::Sorted;
 pub use sorter::Sorter;

@@ -1,6 +1,6 @@
 //! The merge of runs.
 
-ghost use Rattle.std.specs.Prelude.{◌≡◌, ◌≢◌, ◌<◌, ◌+◌, ℕ, List, [], IfErr, IfOk, None, OnOk, length, slice_index_or};
+ghost use Rattle.std.specs.Prelude.{◌≡◌, ◌≢◌, ◌<◌, ◌+◌, ℕ, List, [], Err, IfErr, IfOk, None, OnOk, false, length, slice_index_or, true};
 ghost use Rattle.std.specs.BinaryHeap.{IsHeap, heap_items};
 ghost use Rattle.std.specs.List.{All};
 ghost use Rattle.external_sort.specs.Records.{Entry, Fits};
@@ -23,7 +23,7 @@ const LONG_CHUNK_LEN: usize = 1_048_576;
 
 /// A reader of each run, in the order in which they give their records; the one that gave the last record stands apart.
 #[derive(Drop)]
-pub struct Merge<S: RunStore> {
+pub(crate) struct Merge<S: RunStore> {
     store: S,
     heap: BinaryHeap<RunReader>,
     current: Option<RunReader>,
@@ -32,15 +32,17 @@ pub struct Merge<S: RunStore> {
 impl<S: RunStore> Merge<S> {
     /// Before the first record of runs that have so many bytes each. The memory is shared out to them, but each gets room for
     /// 65,536 bytes and for a record.
-    pub fn new(
+    pub(crate) fn new(
         alloc: Global,
         mut store: S,
         lens: &[u64],
         memory: usize,
     ) -> Result<Merge<S>, SortFault>
-        ensures begins { IfOk result (λ merge. (kept : List (List Entry)) →
+        ensures begins { S.is_true ≡ true → IfOk result (λ merge. (kept : List (List Entry)) →
             AreRuns (S.runs store) lens.now kept → Begins S.runs merge kept) }
         ensures short { IfErr result (λ fault. fault ≢ SortFault.TooLong) }
+        ensures device { S.may_refuse ≡ false → S.is_true ≡ true → (kept : List (List Entry)) →
+            AreRuns (S.runs store) lens.now kept → result ≢ Err SortFault.Device }
     {
         let mut heap = BinaryHeap::with_capacity(alloc, lens.len())?;
         let chunk = (memory / lens.len().max(1)).clamp(CHUNK_LEN, LONG_CHUNK_LEN);
@@ -59,10 +61,12 @@ impl<S: RunStore> Merge<S> {
     }
 
     /// Goes to the next record, and says whether there is one. It takes log k steps for k runs.
-    pub fn next(&mut self) -> Result<bool, SortFault>
-        ensures goes { IfOk result (λ more. (records : List Entry) → IsMerging S.runs self.old records →
+    pub(crate) fn next(&mut self) -> Result<bool, SortFault>
+        ensures goes { S.is_true ≡ true → IfOk result (λ more. (records : List Entry) → IsMerging S.runs self.old records →
             Goes S.runs more self.new records) }
         ensures short { IfErr result (λ fault. fault ≢ SortFault.TooLong) }
+        ensures device { S.may_refuse ≡ false → S.is_true ≡ true → (records : List Entry) →
+            IsMerging S.runs self.old records → result ≢ Err SortFault.Device }
     {
         self.put_back()?;
         self.current = self.heap.pop();
@@ -71,12 +75,16 @@ impl<S: RunStore> Merge<S> {
 
     /// Lets the reader that gave the last record take its turn again, if its run has another record.
     fn put_back(&mut self) -> Result<(), SortFault>
-        ensures ready { OnOk result ((turns : List Turn) → All Fits (entries turns) →
+        ensures ready { S.is_true ≡ true → OnOk result ((turns : List Turn) → All Fits (entries turns) →
             StateOf (S.runs self.old.store) turns self.old.current (heap_items self.old.heap) →
             Ready (S.runs self.new.store) turns (heap_items self.new.heap)) }
         ensures heap { OnOk result (IsHeap turn_cmp (heap_items self.old.heap) →
             IsHeap turn_cmp (heap_items self.new.heap)) }
         ensures short { IfErr result (λ fault. fault ≢ SortFault.TooLong) }
+        ensures device { S.may_refuse ≡ false → S.is_true ≡ true → (turns : List Turn) →
+            All Fits (entries turns) →
+            StateOf (S.runs self.old.store) turns self.old.current (heap_items self.old.heap) →
+            result ≢ Err SortFault.Device }
     {
         let Some(mut reader) = self.current.take() else {
             return Ok(());
@@ -88,7 +96,7 @@ impl<S: RunStore> Merge<S> {
     }
 
     /// The record that it is at.
-    pub fn record(&self) -> Option<Record<'_>>
+    pub(crate) fn record(&self) -> Option<Record<'_>>
         ensures { Shows self.now.current result }
     {
         match &self.current {
@@ -104,7 +112,7 @@ fn begin<S: RunStore>(
     store: &mut S,
     heap: &mut BinaryHeap<RunReader>,
 ) -> Result<(), SortFault>
-    ensures begun { OnOk result ((lens : List ℕ) (kept : List (List Entry)) →
+    ensures begun { S.is_true ≡ true → OnOk result ((lens : List ℕ) (kept : List (List Entry)) →
         AreRuns (S.runs store.old) lens kept → reader.run < length kept →
         HasLeft (S.runs store.old) reader (slice_index_or kept reader.run []) →
         UpTo (S.runs store.old) kept reader.run (heap_items heap.old) →
@@ -113,6 +121,8 @@ fn begin<S: RunStore>(
         IsHeap turn_cmp (heap_items heap.new)) }
     ensures runs { OnOk result (S.runs store.new ≡ S.runs store.old) }
     ensures short { IfErr result (λ fault. fault ≢ SortFault.TooLong) }
+    ensures device { S.may_refuse ≡ false → S.is_true ≡ true → (es : List Entry) → All Fits es →
+        HasLeft (S.runs store.old) reader es → result ≢ Err SortFault.Device }
 {
     if reader.advance(store)? {
         heap.push(reader)?;

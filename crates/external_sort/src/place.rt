@@ -7,15 +7,15 @@ use crate::spelling::HEADER_LEN;
 
 /// Where the key of a record begins, where its value begins, and where the record ends.
 #[derive(Clone, Copy)]
-pub struct Place {
-    pub key_start: usize,
-    pub value_start: usize,
-    pub end: usize,
+pub(crate) struct Place {
+    pub(crate) key_start: usize,
+    pub(crate) value_start: usize,
+    pub(crate) end: usize,
 }
 
 impl Place {
     /// That of a record with these lengths whose header begins at `start`.
-    pub fn after(start: usize, key_len: usize, value_len: usize) -> Place
+    pub(crate) fn after(start: usize, key_len: usize, value_len: usize) -> Place
         requires start { start < 2 ^ 63 }
         requires key { key_len < 2 ^ 16 }
         requires value { value_len < 2 ^ 32 }

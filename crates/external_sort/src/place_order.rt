@@ -9,7 +9,7 @@ use crate::part::part;
 use crate::place::Place;
 
 /// Sorts places by the keys that stand there.
-pub fn sort_places(places: &mut [Place], bytes: &[u8])
+pub(crate) fn sort_places(places: &mut [Place], bytes: &[u8])
     ensures permutation { IsPermutation places.old places.new }
     ensures sorted { IsSortedByKey (key_at bytes.now) (slice_cmp nat_cmp) places.new }
 {

@@ -1,8 +1,9 @@
 //! A reader of one run.
 
-ghost use Rattle.std.specs.Prelude.{◌≡◌, ◌≢◌, ◌≤◌, ℕ, List, IfErr, IfOk, OnOk, length};
+ghost use Rattle.std.specs.Prelude.{◌≡◌, ◌≢◌, ◌≤◌, ℕ, List, Err, IfErr, IfOk, OnOk, false, length, true};
 ghost use Rattle.std.specs.List.{All};
 ghost use Rattle.external_sort.specs.Records.{Entry, Fits, entry};
+ghost use Rattle.external_sort.specs.Runs.{run_at};
 ghost use Rattle.external_sort.specs.internal.Reading.{HasLeft, Begun, Moves, head, rest};
 
 use crate::fault::SortFault;
@@ -16,8 +17,8 @@ use std::alloc::Global;
 
 /// Reads one run record by record. The record that it is at stands at the front of the window.
 #[derive(Drop)]
-pub struct RunReader {
-    pub run: usize,
+pub(crate) struct RunReader {
+    pub(crate) run: usize,
     window: Window,
     /// Where the key of the record ends, counted from its first byte; 0 before the first record.
     key_end: usize,
@@ -33,7 +34,7 @@ pub struct RunReader {
 
 impl RunReader {
     /// A reader before the first record of a run that has so many bytes. It takes no memory yet.
-    pub fn new(alloc: Global, run: usize, len: u64, chunk: usize) -> RunReader
+    pub(crate) fn new(alloc: Global, run: usize, len: u64, chunk: usize) -> RunReader
         ensures { Begun run len result }
     {
         RunReader {
@@ -48,7 +49,7 @@ impl RunReader {
     }
 
     /// The record that it is at.
-    pub fn record(&self) -> Record<'_>
+    pub(crate) fn record(&self) -> Record<'_>
         ensures { entry result.key.now result.value.now ≡ head self.now }
     {
         Record {
@@ -58,19 +59,21 @@ impl RunReader {
     }
 
     /// The key of the record that it is at.
-    pub fn key(&self) -> &[u8]
+    pub(crate) fn key(&self) -> &[u8]
         ensures { result.now ≡ (head self.now).key }
     {
         part(self.window.bytes(), HEADER_LEN, self.key_end)
     }
 
     /// Goes to the next record, and says whether there is one.
-    pub fn advance<S: RunStore>(&mut self, store: &mut S) -> Result<bool, SortFault>
-        ensures moves { IfOk result (λ more. (es : List Entry) → All Fits es →
+    pub(crate) fn advance<S: RunStore>(&mut self, store: &mut S) -> Result<bool, SortFault>
+        ensures moves { S.is_true ≡ true → IfOk result (λ more. (es : List Entry) → All Fits es →
             HasLeft (S.runs store.old) self.old es → Moves more (S.runs store.old) self.new es) }
         ensures run { self.new.run ≡ self.old.run }
         ensures runs { OnOk result (S.runs store.new ≡ S.runs store.old) }
         ensures short { IfErr result (λ fault. fault ≢ SortFault.TooLong) }
+        ensures device { S.may_refuse ≡ false → S.is_true ≡ true → (es : List Entry) → All Fits es →
+            HasLeft (S.runs store.old) self.old es → result ≢ Err SortFault.Device }
     {
         self.window.pass(self.record_end);
         self.key_end = 0;
@@ -91,13 +94,16 @@ impl RunReader {
     /// Reads on until the window has so many bytes.
     fn read_up_to<S: RunStore>(&mut self, store: &mut S, count: usize) -> Result<(), SortFault>
         ensures count { OnOk result (count ≤ length self.new.window) }
-        ensures rest { OnOk result
+        ensures rest { S.is_true ≡ true → OnOk result
             (rest (S.runs store.old) self.new ≡ rest (S.runs store.old) self.old) }
         ensures run { self.new.run ≡ self.old.run }
         ensures len { self.new.len ≡ self.old.len }
         ensures end { self.new.record_end ≡ self.old.record_end }
         ensures runs { OnOk result (S.runs store.new ≡ S.runs store.old) }
         ensures short { IfErr result (λ fault. fault ≢ SortFault.TooLong) }
+        ensures device { S.may_refuse ≡ false →
+            self.old.len ≡ length (run_at self.old.run (S.runs store.old)) →
+            count ≤ length (rest (S.runs store.old) self.old) → result ≢ Err SortFault.Device }
     {
         let have = self.window.bytes().len();
         if count <= have {

@@ -1,6 +1,6 @@
 //! Giving records in order.
 
-ghost use Rattle.std.specs.Prelude.{◌≡◌, ◌≢◌, ℕ, List, IfErr, IfOk};
+ghost use Rattle.std.specs.Prelude.{◌≡◌, ◌≢◌, ℕ, List, Err, IfErr, IfOk, false, true};
 ghost use Rattle.external_sort.specs.Records.{Entry};
 ghost use Rattle.external_sort.specs.Sorting.{Gives, GoesOn, IsCurrent, current};
 
@@ -40,9 +40,11 @@ impl<S: RunStore> Sorted<S> {
     /// Refused with `Memory` where a record of a run is longer than the buffer and there is no memory for it, and with
     /// `Device` where the store refuses.
     pub fn next(&mut self) -> Result<bool, SortFault>
-        ensures next { IfOk result (λ more. (records : List Entry) → Gives S.runs self.old records →
+        ensures next { S.is_true ≡ true → IfOk result (λ more. (records : List Entry) → Gives S.runs self.old records →
             GoesOn S.runs more self.new records) }
         ensures short { IfErr result (λ fault. fault ≢ SortFault.TooLong) }
+        ensures device { S.may_refuse ≡ false → S.is_true ≡ true → (records : List Entry) →
+            Gives S.runs self.old records → result ≢ Err SortFault.Device }
     {
         if self.given < self.batch.len() {
             self.given += 1;

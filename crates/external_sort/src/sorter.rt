@@ -1,6 +1,6 @@
 //! Taking records.
 
-ghost use Rattle.std.specs.Prelude.{◌≡◌, ◌≢◌, ◌++◌, ◌∷◌, ℕ, List, [], Err, IfErr, IfOk, OnOk, false};
+ghost use Rattle.std.specs.Prelude.{◌≡◌, ◌≢◌, ◌++◌, ◌∷◌, ℕ, List, [], Err, IfErr, IfOk, OnOk, false, true};
 ghost use Rattle.std.specs.List.Sorted.{IsPermutation};
 ghost use Rattle.external_sort.specs.Records.{Entry, Rises, entry};
 ghost use Rattle.external_sort.specs.Sorting.{Gives, Holds, IsSettled, IsTooLong};
@@ -88,10 +88,12 @@ impl<S: RunStore> Sorter<S> {
     ///
     /// Refused with `Memory` where memory is refused, and with `Device` where the store refuses.
     pub fn finish(mut self) -> Result<Sorted<S>, SortFault>
-        ensures given { IfOk result (λ sorted. (records : List Entry) → Holds S.runs S.in_hand self records →
+        ensures given { S.is_true ≡ true → IfOk result (λ sorted. (records : List Entry) → Holds S.runs S.in_hand self records →
             (given : List Entry) × IsPermutation records given × Rises given
             × Gives S.runs sorted given) }
         ensures short { IfErr result (λ fault. fault ≢ SortFault.TooLong) }
+        ensures device { S.may_refuse ≡ false → S.is_true ≡ true → (records : List Entry) →
+            Holds S.runs S.in_hand self records → result ≢ Err SortFault.Device }
     {
         self.settle()?;
         let merge = Merge::new(self.alloc, self.store, &self.lens, self.memory)?;
@@ -103,6 +105,7 @@ impl<S: RunStore> Sorter<S> {
         ensures settled { OnOk result ((records : List Entry) → Holds S.runs S.in_hand self.old records →
             IsSettled S.runs self.new records) }
         ensures short { IfErr result (λ fault. fault ≢ SortFault.TooLong) }
+        ensures device { S.may_refuse ≡ false → IfErr result (λ fault. fault ≡ SortFault.Memory) }
     {
         if self.lens.is_empty() {
             self.batch.sort();

@@ -7,10 +7,10 @@ ghost use Rattle.external_sort.specs.internal.Spelling.{spelled};
 use std::alloc::AllocError;
 
 /// How many bytes stand before a key: the length of the key in two bytes and that of the value in four, the greatest byte first.
-pub const HEADER_LEN: usize = 6;
+pub(crate) const HEADER_LEN: usize = 6;
 
 /// Appends a record: its lengths, its key, its value. Where memory is refused, some first part of it is appended.
-pub fn push_spelled(bytes: &mut Vec<u8>, key: &[u8], value: &[u8]) -> Result<(), AllocError>
+pub(crate) fn push_spelled(bytes: &mut Vec<u8>, key: &[u8], value: &[u8]) -> Result<(), AllocError>
     requires { Fits (entry key.now value.now) }
     ensures whole { OnOk result
         (bytes.new.items ≡ bytes.old.items ++ spelled (entry key.now value.now)) }

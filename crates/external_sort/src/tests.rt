@@ -38,6 +38,8 @@ impl RunStore for Kept {
 
     ghost may_refuse = { true };
 
+    ghost is_true = { true };
+
     fn append(&mut self, bytes: &[u8]) -> Result<(), StoreFault> {
         let Some(calls) = self.calls.checked_sub(1) else {
             return Err(StoreFault);

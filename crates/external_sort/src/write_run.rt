@@ -10,7 +10,7 @@ use crate::fault::SortFault;
 use crate::run_store::RunStore;
 
 /// Sorts the records in memory, writes them as a run, and drops them.
-pub fn write_run<S: RunStore>(
+pub(crate) fn write_run<S: RunStore>(
     batch: &mut Batch,
     store: &mut S,
     lens: &mut Vec<u64>,

@@ -1,3 +1,4 @@
 pub mod Faults
+pub mod ReadBack
 pub mod Streams
 pub mod internal

@@ -14,6 +14,7 @@ mod finished;
 mod leaf;
 mod level;
 mod levels;
+mod levels_read;
 mod node_sum;
 mod stream;
 #[cfg(test)]
@@ -22,5 +23,6 @@ mod writer;
 
 pub use fault::{StreamFault, WriterFault};
 pub use finished::FinishedTree;
+pub use levels_read::{NodeLen, NodeLevels, ReadBackFault};
 pub use stream::TreeStream;
 pub use writer::NodeWriter;

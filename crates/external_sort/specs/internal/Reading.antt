@@ -1,5 +1,5 @@
 -- A reader of a run: what it is at, and what it has left.
-use Rattle.std.specs.Prelude.{◌≡◌, ℕ, ◌++◌, ◌∷◌, Bool, true, false, List, [], length, drop, slice_range}
+use Rattle.std.specs.Prelude.{◌≡◌, ℕ, ◌+◌, ◌<◌, ◌≤◌, ◌++◌, ◌∷◌, Bool, true, false, List, [], length, drop, slice_range}
 use Rattle.std.specs.List.{flat_map}
 use Rattle.external_sort.specs.Records.{Entry, entry}
 use Rattle.external_sort.specs.Runs.{run_at}
@@ -13,6 +13,10 @@ head r = entry (slice_range r.window 6 r.key_end) (slice_range r.window r.key_en
 -- what it has read or will read, from the record that it is at
 abbrev pub rest : List (List ℕ) → RunReader → List ℕ
 rest runs r = r.window ++ drop r.offset (run_at r.run runs)
+
+-- the run has so many bytes from the offset on
+abbrev pub HasBytes : List (List ℕ) → ℕ → ℕ → ℕ → Type 0
+HasBytes runs run offset count = (run < length runs) × (offset + count ≤ length (run_at run runs))
 
 -- these records are left after the one that it is at
 pub record HasLeft (runs : List (List ℕ)) (r : RunReader) (es : List Entry) : Type 0 where

@@ -1,4 +1,4 @@
-use Rattle.std.proofs.Common.{◌≡◌, List}
+use Rattle.std.proofs.Common.{◌≡◌, List, true}
 use Rattle.std.specs.BinaryHeap.{IsHeap, heap_items}
 use Rattle.external_sort.specs.Records.{Entry}
 use Rattle.external_sort.specs.internal.Merging.{AreRuns}
@@ -13,5 +13,5 @@ invariant-loop-run g l =
     record {
       same : runs l.store ≡ runs l.fn.store;
       sound : IsHeap turn_cmp (heap_items l.heap);
-      begun : (kept : List (List Entry)) → AreRuns (runs l.fn.store) l.lens kept → UpTo (runs l.fn.store) kept l.run (heap_items l.heap);
+      begun : g.S.RunStore.is_true ≡ true → (kept : List (List Entry)) → AreRuns (runs l.fn.store) l.lens kept → UpTo (runs l.fn.store) kept l.run (heap_items l.heap);
     }

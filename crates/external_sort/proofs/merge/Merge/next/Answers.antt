@@ -9,10 +9,10 @@ use Rattle.external_sort.proofs.MergeLemmas.{next_goes}
 use Rattle.external_sort.proofs.merge.Merge.next.Goals as goal
 
 pub returns-clause-goes : goal.returns-clause-goes
-returns-clause-goes g c records m =
+returns-clause-goes g c is_true records m =
     let old = c.put_back.new.self in
     let fit = subst (λ (es : List Entry). All Fits es) m.is m.fit in
-    let ready = c.in_ok-put_back.ensures.ready m.turns fit m.state in
+    let ready = c.in_ok-put_back.ensures.ready is_true m.turns fit m.state in
     let sound : IsHeap turn_cmp (heap_items old.heap) = c.in_ok-put_back.ensures.heap m.heap in
     let top : IfSome c.pop.result (λ (r : RunReader). IsUpperBound turn_cmp r (heap_items c.pop.new.self)) = search rules in
     let still : IfSome c.pop.result (λ (_ : RunReader). IsHeap turn_cmp (heap_items c.pop.new.self)) = search rules in

@@ -5,7 +5,7 @@ use borrow.Rule.Slice.PartMut.{post_of}
 use Rattle.external_sort.proofs.window.Window.read.Goals as goal
 
 pub returns-clause-bytes : goal.returns-clause-bytes
-returns-clause-bytes g c =
+returns-clause-bytes g c is_true =
     let (more, kept) = c.grow.ensures.kept in
     let old = c.self.inside in
     let e : ℕ = old.end - old.start in
@@ -13,6 +13,7 @@ returns-clause-bytes g c =
     let there : List ℕ = take c.args.count (drop c.args.offset (run_at c.args.run (g.S.RunStore.runs c.args.store.now))) in
     let end_is : c.in-Some.end ≡ e + c.args.count = search rules in
     let long : length c.fill.new.into ≡ c.args.count = search rules in
+    let filled_with = c.in_ok-fill.ensures.read is_true in
     let read : c.fill.new.into ≡ there = search rules in
     let within : e ≤ length c.shift_down.new.buffer.items = omega (arith, c.shift_down.ensures.len, old.buffer.ok.0, c.shift_down.new.buffer.ok.0, c.self.invariant.0, c.self.invariant.1) in
     let d_is : d ≡ c.shift_down.new.buffer.items ++ more = c.deref_mut.ensures.value ∙ kept in
