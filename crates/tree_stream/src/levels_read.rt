@@ -68,7 +68,12 @@ pub trait NodeLevels {
         ensures unmeasured { IsSameBut (unmeasured self.old) (unmeasured self.new) tree level (nodes self.old tree level) };
 
     /// Reads the next node of a level, in place of what was read, and says whether there was one.
-    fn next_node(&mut self, tree: Tree, level: u8, into: &mut Vec<u8>) -> Result<bool, ReadBackFault>
+    fn next_node(
+        &mut self,
+        tree: Tree,
+        level: u8,
+        into: &mut Vec<u8>,
+    ) -> Result<bool, ReadBackFault>
         ensures read { is_true ≡ true → IfOk result (λ more.
             IsFirst (unread self.old) (unread self.new) tree level more into.new.items) }
         ensures nodes { OnOk result (nodes self.new ≡ nodes self.old) }
