@@ -1,0 +1,4 @@
+pub mod Built
+pub mod Levels
+pub mod Stored
+pub mod internal

@@ -1,0 +1,5 @@
+-- Words that only private clauses cite: nothing that a reader of the promises must believe.
+pub mod Files
+pub mod Given
+pub mod Keeping
+pub mod Rows
