@@ -1,0 +1,17 @@
+use Rattle.std.proofs.Common.{◌≡◌, ℕ, List, Option, map}
+use Rattle.external_sort.specs.Records.{Entry}
+use Rattle.external_sort.specs.Sorting.{Gives}
+use Rattle.entry_sort.specs.internal.Names.{HoldsNames, IsLeastRepeat, Named, name_record, scan, start}
+use Rattle.entry_sort.proofs.NameLemmas.{found_of}
+use Rattle.entry_sort.proofs.PushLemmas.{if_ok_from}
+use Rattle.entry_sort.proofs.name_sorter.NameSorter.first_repeat.Goals as goal
+
+pub returns-clause-least : goal.returns-clause-least
+returns-clause-least g c is_true =
+    if_ok_from (λ (given : (es : List Entry) × Gives g.S.RunStore.runs c.in_ok-sorted.sorted es) (found : Option ℕ). found ≡ (scan start given.0).found)
+    (λ (found : Option ℕ). (names : List Named) → HoldsNames g.S.RunStore.runs g.S.RunStore.in_hand c.args.self names → IsLeastRepeat (map name_record names) found)
+    c.scan_all.result
+    (λ given. c.scan_all.ensures.found is_true given.0 given.1)
+    (λ found known names h.
+    let (given, order, rises, gives) = c.in_ok-sorted.ensures.given is_true (map name_record names) h in
+    found_of (map name_record names) given found order rises (known (given, gives)))

@@ -1,0 +1,12 @@
+mod PublishedNodes
+mod RowLemmas
+mod ApartLemmas
+mod PlaceLemmas
+mod PackLemmas
+mod ReadyLemmas
+mod KeyLemmas
+mod LevelLemmas
+mod LayoutLemmas
+mod WriteLemmas
+mod TableLemmas
+mod KnownLemmas

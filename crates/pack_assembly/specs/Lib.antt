@@ -1,0 +1,4 @@
+pub mod Faults
+pub mod Levels
+pub mod Packing
+pub mod internal

@@ -1,0 +1,5 @@
+-- Words that only private clauses cite: nothing that a reader of the promises must believe.
+pub mod Order
+pub mod Front
+pub mod Keys
+pub mod Placing
