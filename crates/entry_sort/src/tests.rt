@@ -12,7 +12,7 @@ use osm_index::entries_of;
 use osm_model::ObjectSet;
 use std::alloc::{AllocError, Global};
 use std::test::Fail;
-use tree_node::Tree;
+use tree_node::{Item, Tree};
 
 /// Keeps runs in memory, and refuses each call after so many.
 #[derive(Drop)]
@@ -253,20 +253,27 @@ fn sort(
     }
 }
 
+/// Whether what was taken is these entries.
+fn are_same(pairs: &[Pair], entries: &[Item<'_>]) -> bool {
+    if pairs.len() != entries.len() {
+        return false;
+    }
+    for (pair, entry) in pairs.iter().zip(entries) {
+        if pair.key.as_slice() != entry.key || pair.value.as_slice() != entry.value {
+            return false;
+        }
+    }
+    true
+}
+
 /// Whether these are the entries of the trees of the whole set, as they are listed in memory.
 fn is_whole(alloc: Global, taken: &Taken) -> Result<bool, Ended> {
     let set = set_of(alloc, WHOLE)?;
     for tree in TREES {
         let list = entries_of(alloc, &set, tree)?;
         let entries = list.sorted(alloc)?;
-        let pairs = taken.of_tree(tree);
-        if pairs.len() != entries.len() {
+        if !are_same(taken.of_tree(tree), &entries) {
             return Ok(false);
-        }
-        for (pair, entry) in pairs.iter().zip(&entries) {
-            if pair.key.as_slice() != entry.key || pair.value.as_slice() != entry.value {
-                return Ok(false);
-            }
         }
     }
     Ok(true)
