@@ -1,0 +1,2 @@
+mod BuildLemmas
+mod SinkLemmas

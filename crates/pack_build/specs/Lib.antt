@@ -1,0 +1,4 @@
+pub mod Building
+pub mod Faults
+pub mod Taken
+pub mod internal

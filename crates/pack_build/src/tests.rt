@@ -1,0 +1,100 @@
+//! Packs of sets beside those that are made in memory.
+
+use crate::{BuildFault, build_pack};
+use node_pack::write_pack;
+use opl_codec::{OplCause, read_set};
+use osm_index::Snapshot;
+use osm_keys::Edition;
+use scratch_files::ScratchFolder;
+use std::alloc::Global;
+use std::test::Fail;
+use tree_node::{Digest, Recorder};
+
+/// A small set, out of order, with a way that lists a node twice and a relation with members that aren't there.
+const SET: &[u8] = b"r3 v1 dV c0 t i0 u Ttype=route Mn2@stop,w9@,r3@\n\
+n2 v1 dV c0 t i0 u Tname=b x13.3816 y52.5142\n\
+n1 v4 dV c0 t i0 u Tname=a,highway=crossing x-180 y-90\n\
+w5 v2 dV c0 t i0 u Thighway=service Nn1,n2,n1\n\
+n7 v1 dV c0 t i0 u T x180 y90\n";
+
+/// The pack of the set as memory gives it, and its root.
+fn expected(alloc: Global, edition: Edition) -> Result<(Digest, Vec<u8>), Fail> {
+    let set = read_set(alloc, &mut &SET[..])?;
+    let snapshot = Snapshot::build(alloc, set, edition)?;
+    let mut shelf = Recorder::new(alloc, snapshot.stock());
+    let mut pack = Vec::new(alloc);
+    write_pack(alloc, &mut shelf, snapshot.root(), &mut pack)?;
+    Ok((*snapshot.root(), pack))
+}
+
+#[test]
+fn writes_what_memory_gives(rt: HostRuntime) -> Result<(), Fail> {
+    let alloc = rt.alloc();
+    for edition in [
+        Edition::One,
+        Edition::Two { sequence: 0 },
+        Edition::Two { sequence: 71 },
+    ] {
+        let (root, pack) = expected(alloc, edition)?;
+        for memory in [0, 1_000, 1_000_000] {
+            let mut built = Vec::new(alloc);
+            let folder = ScratchFolder::new(&rt, ".");
+            let told = build_pack(
+                alloc,
+                &mut &SET[..],
+                edition,
+                folder,
+                [folder; 4],
+                memory,
+                &mut built,
+            )?;
+            assert_eq!(rt; told, root);
+            assert_eq!(rt; built, pack);
+        }
+    }
+    Ok(())
+}
+
+#[test]
+fn an_object_that_comes_twice_is_refused_at_its_line(rt: HostRuntime) -> Result<(), Fail> {
+    let text = b"n1 v1 x1 y1\nn2 v1 x1 y1\nn1 v2 x1 y2\nn3 v1 x1 y2\n";
+    let mut built = Vec::new(rt.alloc());
+    let folder = ScratchFolder::new(&rt, ".");
+    let edition = Edition::Two { sequence: 0 };
+    match build_pack(
+        rt.alloc(),
+        &mut &text[..],
+        edition,
+        folder,
+        [folder; 4],
+        0,
+        &mut built,
+    ) {
+        Err(BuildFault::Load(load)) => {
+            assert_eq!(rt; load.line, 3);
+            assert!(rt; load.fault.cause == OplCause::OutsideModel);
+        }
+        _ => assert!(rt; false),
+    }
+    assert!(rt; built.is_empty());
+    Ok(())
+}
+
+#[test]
+fn without_a_folder_the_device_is_at_fault(rt: HostRuntime) -> Result<(), Fail> {
+    let mut built = Vec::new(rt.alloc());
+    let folder = ScratchFolder::new(&rt, "./nowhere");
+    let edition = Edition::Two { sequence: 0 };
+    let told = build_pack(
+        rt.alloc(),
+        &mut &SET[..],
+        edition,
+        folder,
+        [folder; 4],
+        1_000,
+        &mut built,
+    );
+    assert!(rt; matches!(told, Err(BuildFault::Device)));
+    assert!(rt; built.is_empty());
+    Ok(())
+}
