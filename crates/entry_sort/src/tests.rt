@@ -281,7 +281,7 @@ fn is_whole(alloc: Global, taken: &Taken) -> Result<bool, Ended> {
 
 /// With memory for one record, for a few and for all.
 #[test]
-fn sorts_as_in_memory(rt: HostRuntime) {
+fn sorts_as_the_whole_set(rt: HostRuntime) {
     for memory in [0, 400, 1_000_000] {
         match sort(rt.alloc(), memory, 9, 0, 1000) {
             Ok(taken) => assert!(rt; is_whole(rt.alloc(), &taken) == Ok(true)),

@@ -210,7 +210,7 @@ fn written(alloc: Global, calls: u64, out: &mut Vec<u8>) -> Result<Digest, Assem
 }
 
 #[test]
-fn writes_the_worked_pack(rt: HostRuntime) -> Result<(), Fail> {
+fn writes_the_worked_pack_after_refused_memory(rt: HostRuntime) -> Result<(), Fail> {
     let alloc = rt.alloc();
     let mut out = Vec::new(alloc);
     let root = match written(alloc, 30, &mut out) {

@@ -28,7 +28,7 @@ fn expected(alloc: Global, edition: Edition) -> Result<(Digest, Vec<u8>), Fail> 
 }
 
 #[test]
-fn writes_what_memory_gives(rt: HostRuntime) -> Result<(), Fail> {
+fn writes_what_is_built_at_once(rt: HostRuntime) -> Result<(), Fail> {
     let alloc = rt.alloc();
     for edition in [
         Edition::One,
@@ -97,4 +97,28 @@ fn without_a_folder_the_device_is_at_fault(rt: HostRuntime) -> Result<(), Fail> 
     assert!(rt; matches!(told, Err(BuildFault::Device)));
     assert!(rt; built.is_empty());
     Ok(())
+}
+
+#[test]
+fn builds_after_refused_memory(rt: HostRuntime) {
+    for _ in 0..2 {
+        let mut built = Vec::new(rt.alloc());
+        let folder = ScratchFolder::new(&rt, ".");
+        let edition = Edition::Two { sequence: 0 };
+        match build_pack(
+            rt.alloc(),
+            &mut &SET[..],
+            edition,
+            folder,
+            [folder; 4],
+            1_000,
+            &mut built,
+        ) {
+            Ok(_) => assert!(rt; built.as_slice().starts_with(b"OSMK")),
+            // Where a store or what is written finds no memory, that is a fault of the device.
+            Err(fault) => {
+                assert!(rt; fault == BuildFault::Memory || fault == BuildFault::Device);
+            }
+        }
+    }
 }

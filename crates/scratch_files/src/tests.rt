@@ -1,7 +1,7 @@
 //! Stores in the folder where the tests run.
 
 use crate::ScratchFolder;
-use external_sort::{RunStore, StoreMaker};
+use external_sort::{RunStore, StoreFault, StoreMaker};
 use std::fs;
 use std::test::Fail;
 
@@ -43,4 +43,25 @@ fn no_name_is_left(rt: HostRuntime) -> Result<(), Fail> {
 #[test]
 fn a_folder_that_isnt_there_is_refused(rt: HostRuntime) {
     assert!(rt; ScratchFolder::new(&rt, "./nowhere").make_store().is_err());
+}
+
+/// Some bytes of a run that is kept.
+fn kept(rt: &HostRuntime) -> Result<[u8; 3], StoreFault> {
+    let mut folder = ScratchFolder::new(rt, ".");
+    let mut store = folder.make_store()?;
+    store.append(b"abcd")?;
+    store.end_run()?;
+    let mut read = [0; 3];
+    store.read(0, 1, &mut read)?;
+    Ok(read)
+}
+
+/// Memory that was refused is given at the second try.
+#[test]
+fn keeps_a_run_after_refused_memory(rt: HostRuntime) {
+    let read = match kept(&rt) {
+        Ok(read) => Ok(read),
+        Err(_) => kept(&rt),
+    };
+    assert!(rt; read == Ok(*b"bcd"));
 }
