@@ -1,8 +1,10 @@
 //! The lines of a reader, one after the other.
 
-ghost use Rattle.std.specs.Prelude.{◌≡◌, ◌≤◌, ◌^◌, Err, Ok, false, true, IfErr, IfNone, IfSome, None, OnOk, Some};
+ghost use Rattle.std.specs.Prelude.{◌≡◌, ◌⊎◌, ◌≤◌, ◌^◌, Err, List, Ok, false, true, IfErr, IfNone, IfSome, None, OnOk, Some, ℕ};
+ghost use Rattle.std.specs.Io.KnownBytes.{prepend_known};
 ghost use Rattle.opl_codec.specs.LineReads.{IsNext};
 
+use crate::cause::OplCause;
 use crate::change::Change;
 use crate::fault::LoadFault;
 use crate::line_buffer::LineBuffer;
@@ -79,5 +81,16 @@ impl<R: Read> LineReader<R> {
             self.fault = Some(*fault);
         }
         told
+    }
+
+    /// The reader. Bytes that it gave and that no line has yet are lost; there are none where it failed or never ended.
+    pub fn into_reader(self) -> R
+        // What is left are the bytes that are left in the reader, after those that are lost,
+        ensures rest { (lost : List ℕ) × (self.at.left ≡ prepend_known lost (R.remaining result)) }
+        // and where the reader was at fault, none are.
+        ensures none_lost { IfSome self.fault (λ load. (load.fault.cause ≡ OplCause.ReaderFailed)
+            ⊎ (load.fault.cause ≡ OplCause.Endless) → R.remaining result ≡ self.at.left) }
+    {
+        self.reader
     }
 }

@@ -1,7 +1,7 @@
 -- A reader's bytes that were read and not yet told.
 -- Source: this project.
 use Rattle.std.specs.Global.{Vec}
-use Rattle.std.specs.Prelude.{◌≡◌, ◌≢◌, ℕ, ◌+◌, ◌*◌, ◌≤◌, ◌⊎◌, true, false, if◌then◌else◌, List, [], ◌∷◌, Option, Some, None, Result, ⊤, Ok, Err, MatchOption, length}
+use Rattle.std.specs.Prelude.{◌≡◌, ◌≢◌, ℕ, ◌+◌, ◌*◌, ◌≤◌, ◌⊎◌, true, false, if◌then◌else◌, List, [], ◌∷◌, Option, Some, None, Result, Ok, Err, MatchOption, length}
 use Rattle.std.specs.List.{AllByRecursion}
 use Rattle.std.specs.Io.KnownBytes.{IsAtEnd}
 use Rattle.osm_model.specs.Bytes.{line_feed}
@@ -10,6 +10,7 @@ use Rattle.opl_codec.specs.LineChanges.{IsSkipped, Spells}
 use Rattle.opl_codec.specs.LineFields.{is_comment}
 use Rattle.opl_codec.specs.LineReaders.{unread}
 use Rattle.opl_codec.specs.LineReads.{AreEnded, IsEnd, IsRefused, IsWholeLine, LinePlace, StopsLine, Takes, no_memory}
+use Rattle.opl_codec.specs.internal.Loading.{IsTold}
 use Rattle.opl_codec.specs.declared.change.Change.{Change}
 use Rattle.opl_codec.specs.declared.fault.LoadFault.{LoadFault}
 use Rattle.opl_codec.specs.declared.fault.OplFault.{OplFault}
@@ -79,7 +80,7 @@ IsStep old new kept comment (Err load) = (load ≡ no_memory) ⊎ StopsNext old 
 -- a reader that told no fault yet goes on
 abbrev pub GoesOnUnless : Option LoadFault → Option (List ℕ) → LineBuffer → Type 0
 GoesOnUnless None known b = GoesOn known b
-GoesOnUnless (Some load) known b = ⊤
+GoesOnUnless (Some load) known b = IsTold b load
 
 -- skipped lines alone were read
 pub record SkippedTo (old new : LinePlace) : Type 0 where

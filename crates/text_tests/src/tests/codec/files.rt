@@ -94,8 +94,10 @@ fn a_failing_reader_names_the_line(rt: HostRuntime) {
         let wanted = fault(line, OplCause::ReaderFailed, 0);
         let told = read_set(alloc, &mut failing(fails_at)).err();
         assert!(rt; told == wanted, "{told:?}");
-        let told = stop_of(&mut LineReader::new(alloc, failing(fails_at)));
+        let mut lines = LineReader::new(alloc, failing(fails_at));
+        let told = stop_of(&mut lines);
         assert!(rt; told == wanted, "{told:?}");
+        assert!(rt; lines.into_reader().left.len() == 19 - fails_at);
     }
 }
 
