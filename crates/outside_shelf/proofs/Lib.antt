@@ -1,1 +1,2 @@
 mod BroughtLemmas
+mod PartLemmas

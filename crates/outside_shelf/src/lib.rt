@@ -5,7 +5,6 @@
 #![tactic(auto)]
 
 mod bound;
-mod brought;
 mod outside;
 mod refused;
 mod source;

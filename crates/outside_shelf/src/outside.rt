@@ -1,30 +1,31 @@
 //! A shelf over a source of which nothing is known.
 
 ghost use Rattle.std.specs.Option.{ForSome};
-ghost use Rattle.std.specs.Prelude.{◌≡◌, ◌≤◌, ◌<◌, ◌+◌, ℕ, List, Err, IfErr, IfOk, IfSome, None, OnErr, OnOk, Some, false, length, true};
+ghost use Rattle.std.specs.Prelude.{◌≡◌, ◌≤◌, ◌<◌, ◌+◌, ◌⊎◌, ◌≢◌, ℕ, List, Err, IfErr, IfOk, IfSome, None, OnErr, OnOk, Some, false, length, true};
 ghost use Rattle.tree_node.specs.Digests.{digest as digest_word};
 ghost use Rattle.tree_node.specs.Fetches.{GivesNode};
+ghost use Rattle.tree_node.specs.Parts.{HaveNode, HaveRisingDigests, node_of};
 ghost use Rattle.tree_node.specs.Shelves.{GrownBy, HasNone, IsEmptySet, SameNodes, Stays};
 ghost use Rattle.outside_shelf.specs.Brought.{HasRoomFor, brought_at, brought_len};
 ghost use Rattle.outside_shelf.specs.Reasons.{shelf_fault_of};
 
 use crate::bound::Bound;
-use crate::brought::Brought;
 use crate::refused::Refused;
 use crate::source::NodeSource;
 use bumpalo::Bump;
-use std::alloc::Global;
+use std::alloc::{AllocError, Global};
 use std::collections::HashMap;
-use tree_node::{Digest, Fetched, NodeRef, Shelf, ShelfFault, digest_of};
+use tree_node::{Digest, Fetched, NodeRef, Part, Shelf, ShelfFault};
 
 /// A shelf that holds what it has brought so far. Each node came from the source, has the digest that was asked, and lies in
-/// an arena from then on, so that it is brought once.
+/// an arena from then on, so that it is brought once. Its digest is computed once, in the arena, so bytes that are refused
+/// for another digest lie there too.
 #[derive(Drop)]
 pub struct OutsideShelf<'a, N: NodeSource + Drop> {
     arena: &'a Bump,
     source: N,
     buffer: Vec<u8>,
-    brought: HashMap<Digest, Brought<'a>>,
+    brought: HashMap<Digest, Part<'a>>,
     bound: Option<Bound>,
     refused: Option<Refused>,
     ghost own: { (key : _) → ForSome (brought_at brought key) (λ node. digest_word node ≡ key.0) },
@@ -33,7 +34,7 @@ pub struct OutsideShelf<'a, N: NodeSource + Drop> {
 
 impl<'a, N: NodeSource + Drop> OutsideShelf<'a, N> {
     ghost use Rattle.outside_shelf.specs.Shelves.{CostsFor, HasBrought, KeepsBound, Spends, WasRefusedFor, last_read, left_of, most_of, reason_of};
-    ghost use Rattle.outside_shelf.specs.declared.refused.Refused.TheVariants.{Memory};
+    ghost use Rattle.outside_shelf.specs.declared.refused.Refused.TheVariants.{Memory, Other};
 
     /// A shelf over this source, which has brought nothing yet. Where it is given a bound it reads at most this many bytes, and
     /// all bytes that the source gives count, also those that are refused. It takes no memory yet; what it needs later comes
@@ -68,6 +69,18 @@ impl<'a, N: NodeSource + Drop> OutsideShelf<'a, N> {
         self.bound.map(|bound| bound.left)
     }
 
+    /// The nodes that were brought, each once, by rising digest, in memory from `alloc`. No bytes are copied and no digest is
+    /// computed again. It sorts them, so it takes n log n time for n nodes.
+    pub fn parts(&self, alloc: Global) -> Result<Vec<Part<'a>>, AllocError>
+        ensures rising { IfOk result (λ parts. HaveRisingDigests parts.items) }
+        ensures brought { IfOk result (λ parts.
+            SameNodes (HasBrought self.now) (HaveNode parts.items)) }
+    {
+        let mut parts: Vec<Part<'a>> = self.brought.values().copied().collect(alloc)?;
+        parts.sort_unstable_by_key(|part| part.digest());
+        Ok(parts)
+    }
+
     /// The node with this digest, from the source where it wasn't brought before.
     fn give(&mut self, key: &Digest) -> Result<&'a [u8], Refused>
         ensures given { IfOk result (λ node.
@@ -85,7 +98,7 @@ impl<'a, N: NodeSource + Drop> OutsideShelf<'a, N> {
         }
         self.read(key)?;
         match self.arena.try_alloc_slice_copy(self.buffer.as_slice()) {
-            Ok(node) => self.remember(key, node),
+            Ok(bytes) => self.remember(key, Part::new(bytes)),
             Err(_) => Err(Refused::Memory),
         }
     }
@@ -97,14 +110,13 @@ impl<'a, N: NodeSource + Drop> OutsideShelf<'a, N> {
         ensures none { result ≡ None → HasNone (HasBrought self.now) key.now.0 }
     {
         match self.brought.get(key) {
-            Some(node) => Some(node.bytes),
+            Some(part) => Some(part.bytes()),
             None => None,
         }
     }
 
-    /// Reads the bytes with this digest from the source into the buffer. Whoever gave them, they have the digest.
+    /// Reads the bytes that the source gives for this digest into the buffer.
     fn read(&mut self, key: &Digest) -> Result<(), Refused>
-        ensures own { OnOk result (digest_word (last_read self.new) ≡ key.now.0) }
         ensures why { IfErr result (WasRefusedFor self.old self.new key.now) }
         ensures within { OnOk result (ForSome (left_of self.old) (λ left. length (last_read self.new) ≤ left)) }
         ensures spent { Spends self.old self.new (length (last_read self.new)) }
@@ -123,9 +135,6 @@ impl<'a, N: NodeSource + Drop> OutsideShelf<'a, N> {
         if len > at_most {
             return Err(Refused::TooMany);
         }
-        if digest_of(self.buffer.as_slice()) != *key {
-            return Err(Refused::Other);
-        }
         Ok(())
     }
 
@@ -140,20 +149,24 @@ impl<'a, N: NodeSource + Drop> OutsideShelf<'a, N> {
         }
     }
 
-    /// Remembers a node that has this digest, and wasn't brought before.
-    fn remember(&mut self, key: &Digest, node: &'a [u8]) -> Result<&'a [u8], Refused>
-        requires own { digest_word node.now ≡ key.now.0 }
+    /// Remembers these bytes as the node with this digest, which wasn't brought before, where they have it.
+    fn remember(&mut self, key: &Digest, part: Part<'a>) -> Result<&'a [u8], Refused>
         requires fresh { HasNone (HasBrought self.old) key.now.0 }
-        requires room { HasRoomFor self.old.bound self.old.brought node.now }
-        ensures node { IfOk result (λ same. same.now ≡ node.entry.now) }
-        ensures grown { OnOk result (GrownBy (HasBrought self.old) (HasBrought self.new) node.entry.now) }
+        requires room { HasRoomFor self.old.bound self.old.brought (node_of part) }
+        ensures node { IfOk result (λ node. node.now ≡ node_of part.entry) }
+        ensures own { OnOk result (digest_word (node_of part.entry) ≡ key.now.0) }
+        ensures grown { OnOk result (GrownBy (HasBrought self.old) (HasBrought self.new) (node_of part.entry)) }
         ensures unchanged { OnErr result (SameNodes (HasBrought self.old) (HasBrought self.new)) }
-        ensures memory { OnErr result (result ≡ Err Memory) }
+        ensures why { IfErr result (λ reason. (reason ≡ Memory)
+            ⊎ ((reason ≡ Other) × (digest_word (node_of part.entry) ≢ key.now.0))) }
         ensures bound { self.new.bound ≡ self.old.bound }
         ensures buffer { self.new.buffer ≡ self.old.buffer }
     {
-        match self.brought.insert(*key, Brought { bytes: node }) {
-            Ok(_) => Ok(node),
+        if part.digest() != *key {
+            return Err(Refused::Other);
+        }
+        match self.brought.insert(*key, part) {
+            Ok(_) => Ok(part.bytes()),
             Err(_) => Err(Refused::Memory),
         }
     }

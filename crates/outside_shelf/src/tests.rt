@@ -236,3 +236,21 @@ fn fetches_nodes_after_refused_memory(rt: HostRuntime) {
         fetch_at_last(&rt, &mut shelf, key, node);
     }
 }
+
+/// The nodes that were brought come once each, by rising digest. Run with each allocation refused in turn.
+#[test]
+fn lists_what_it_brought_within_memory(rt: HostRuntime) -> Result<(), Fail> {
+    let arena = Bump::new(rt.alloc());
+    let mut shelf = OutsideShelf::new(rt.alloc(), &arena, Listed, None);
+    assert!(rt; shelf.parts(rt.alloc())?.is_empty());
+    for key in [LEAF_KEY, LAST_KEY, TOP_KEY, LEAF_KEY] {
+        shelf.fetch(&key)?;
+    }
+    let parts = shelf.parts(rt.alloc())?;
+    let expected = [(TOP_KEY, TOP), (LAST_KEY, LAST), (LEAF_KEY, LEAF)];
+    assert_eq!(rt; parts.len(), 3);
+    for (part, (key, node)) in parts.iter().zip(expected) {
+        assert!(rt; part.digest() == key && part.bytes() == node);
+    }
+    Ok(())
+}
