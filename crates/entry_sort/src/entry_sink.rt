@@ -22,6 +22,11 @@ pub trait EntrySink {
     /// What of a sink is the same from one moment to a later one.
     ghost is_same: { Self → Self → Type 0 };
 
+    /// The entries of this tree come next, of a set of so many objects. Nothing that is taken depends on the number.
+    fn begin(&mut self, tree: Tree, objects: u64)
+        ensures untaken { (each : TreeWord) → taken self.new each ≡ taken self.old each }
+        ensures begun { is_same self.old self.new };
+
     /// Takes the next entry of a tree. Refused with `TooMany` where the tree has 2^29 entries already. After a refusal
     /// nothing is known of what was taken.
     fn take(&mut self, tree: Tree, key: &[u8], value: &[u8]) -> Result<(), SinkFault>

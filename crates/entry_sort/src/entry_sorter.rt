@@ -24,6 +24,8 @@ pub struct EntrySorter<S: RunStore> {
     tags: Sorter<S>,
     cells: Sorter<S>,
     backs: Sorter<S>,
+    /// How many objects were taken.
+    object_count: u64,
 }
 
 impl<S: RunStore> EntrySorter<S> {
@@ -45,6 +47,7 @@ impl<S: RunStore> EntrySorter<S> {
             tags: Sorter::new(alloc, maker.make_store()?, share),
             cells: Sorter::new(alloc, maker.make_store()?, share),
             backs: Sorter::new(alloc, maker.make_store()?, share),
+            object_count: 0,
         })
     }
 
@@ -59,6 +62,8 @@ impl<S: RunStore> EntrySorter<S> {
         ensures short { IfErr result (λ fault. fault ≢ SortFault.TooLong) }
         ensures device { S.may_refuse ≡ false → result ≢ Err SortFault.Device }
     {
+        let count = set.as_slice().len() as u64;
+        self.object_count = self.object_count.saturating_add(count);
         push_entries(alloc, &mut self.objects, set, Tree::Objects)?;
         push_entries(alloc, &mut self.tags, set, Tree::Tags)?;
         push_entries(alloc, &mut self.cells, set, Tree::Cells)?;
@@ -66,7 +71,7 @@ impl<S: RunStore> EntrySorter<S> {
     }
 
     /// Gives the entries of the trees of the set that all objects make: tree by tree, those of a tree by rising key,
-    /// each once. No two of the objects have one reference.
+    /// each once. No two of the objects have one reference. The sink is told of each tree before its records are merged.
     ///
     /// Refused with `TooMany` where a tree has more than 2^29 entries, with `Memory` where memory is refused, and with
     /// `Device` where a store or the sink refuses.
@@ -79,9 +84,10 @@ impl<S: RunStore> EntrySorter<S> {
             (set : List Element) → IsObjectSet set → HoldsEntries S.runs S.in_hand self set →
             result ≡ Err SinkFault.TooMany → HasTooMany set }
     {
-        give_tree(alloc, self.objects, Tree::Objects, sink)?;
-        give_tree(alloc, self.tags, Tree::Tags, sink)?;
-        give_tree(alloc, self.cells, Tree::Cells, sink)?;
-        give_tree(alloc, self.backs, Tree::Backs, sink)
+        let count = self.object_count;
+        give_tree(alloc, self.objects, Tree::Objects, count, sink)?;
+        give_tree(alloc, self.tags, Tree::Tags, count, sink)?;
+        give_tree(alloc, self.cells, Tree::Cells, count, sink)?;
+        give_tree(alloc, self.backs, Tree::Backs, count, sink)
     }
 }

@@ -18,11 +18,12 @@ use external_sort::{RunStore, SortFault, Sorted, Sorter};
 use std::alloc::Global;
 use tree_node::Tree;
 
-/// Gives the records of a sorter to the sink as the entries of a tree.
+/// Gives the records of a sorter to the sink as the entries of a tree of a set of so many objects.
 pub(crate) fn give_tree<S: RunStore, E: EntrySink>(
     alloc: Global,
     sorter: Sorter<S>,
     tree: Tree,
+    objects: u64,
     sink: &mut E,
 ) -> Result<(), SinkFault>
     ensures taken { S.is_true ≡ true → (set : List Element) → IsObjectSet set →
@@ -35,6 +36,7 @@ pub(crate) fn give_tree<S: RunStore, E: EntrySink>(
         HoldsTree S.runs S.in_hand sorter set tree → E.taken sink.old tree ≡ [] →
         result ≡ Err SinkFault.TooMany → HasTooMany set }
 {
+    sink.begin(tree, objects);
     match sorter.finish() {
         Ok(mut sorted) => give_sorted(alloc, &mut sorted, tree, sink),
         Err(fault) => Err(sink_fault(fault)),

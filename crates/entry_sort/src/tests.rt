@@ -118,7 +118,8 @@ struct Pair {
     value: Vec<u8>,
 }
 
-/// Keeps the entries of each tree, up to a number of all, after which it refuses.
+/// Keeps the entries of each tree, up to a number of all, after which it refuses. It refuses entries of a tree that it
+/// wasn't told comes next.
 #[derive(Drop)]
 struct Taken {
     alloc: Global,
@@ -126,6 +127,7 @@ struct Taken {
     tags: Vec<Pair>,
     cells: Vec<Pair>,
     backs: Vec<Pair>,
+    begun: Option<(Tree, u64)>,
     calls: u64,
 }
 
@@ -137,7 +139,15 @@ impl Taken {
             tags: Vec::new(alloc),
             cells: Vec::new(alloc),
             backs: Vec::new(alloc),
+            begun: None,
             calls,
+        }
+    }
+
+    fn is_begun(&self, tree: Tree) -> bool {
+        match self.begun {
+            Some((begun, _)) => begun == tree,
+            None => false,
         }
     }
 
@@ -167,7 +177,14 @@ impl EntrySink for Taken {
 
     ghost chained = { λ _ _ _ _ _. tt };
 
+    fn begin(&mut self, tree: Tree, objects: u64) {
+        self.begun = Some((tree, objects));
+    }
+
     fn take(&mut self, tree: Tree, key: &[u8], value: &[u8]) -> Result<(), SinkFault> {
+        if !self.is_begun(tree) {
+            return Err(SinkFault::Device);
+        }
         let Some(calls) = self.calls.checked_sub(1) else {
             return Err(SinkFault::Device);
         };
@@ -302,6 +319,7 @@ fn gives_each_once(rt: HostRuntime) {
     assert!(rt; taken.of_tree(Tree::Cells).len() == 3);
     let backs = taken.of_tree(Tree::Backs);
     assert!(rt; backs.len() == 4);
+    assert!(rt; taken.begun == Some((Tree::Backs, 5)));
     let node_1 = [1, 128, 0, 0, 0, 0, 0, 0, 1];
     let way_7 = [2, 128, 0, 0, 0, 0, 0, 0, 7];
     let relation_3 = [3, 128, 0, 0, 0, 0, 0, 0, 3];

@@ -12,6 +12,7 @@ use crate::sink::TreesSink;
 use entry_sort::sort_entries;
 use external_sort::{RunStore, Sorter, StoreMaker};
 use level_files::FinishedTrees;
+use osm_index::BuildProgress;
 use osm_keys::Edition;
 use pack_assembly::{BuiltTrees, write_pack_of_levels};
 use std::alloc::Global;
@@ -27,6 +28,9 @@ use tree_stream::WriterFault;
 /// `memory`, in bytes, bounds what is held of the set while it is sorted (see `entry_sort::sort_entries`), and the digests that
 /// are sorted to see that no two nodes share one. Beside it a node for each level of a tree is held.
 ///
+/// `progress` is told of each tree before its entries are merged, and how many objects the set has. Nothing that is built
+/// depends on it.
+///
 /// # Errors
 ///
 /// `Load` where the input holds no set of objects, by its first line at fault, or where its reader fails or never ends;
@@ -35,10 +39,11 @@ use tree_stream::WriterFault;
 /// `Device` where a store or the writer fails. Nothing is written then, but where a device fails a beginning of the pack.
 ///
 /// Clauses that speak of what is written have the premise that stores give back what they were told (`is_true`).
-pub fn build_pack<R: Read, S: RunStore, M: StoreMaker<S> + Drop, W: Write>(
+pub fn build_pack<R: Read, S: RunStore, M: StoreMaker<S> + Drop, W: Write, B: BuildProgress>(
     alloc: Global,
     input: &mut R,
     edition: Edition,
+    progress: &mut B,
     maker: M,
     makers: [M; 4],
     memory: usize,
@@ -54,7 +59,7 @@ pub fn build_pack<R: Read, S: RunStore, M: StoreMaker<S> + Drop, W: Write>(
     ensures untouched { IfErr result (λ fault. fault ≢ BuildFault.Device → pack.new ≡ pack.old) }
 {
     let mut maker = maker;
-    let mut sink = TreesSink::new(alloc, shape_of(edition), makers);
+    let mut sink = TreesSink::new(alloc, shape_of(edition), progress, makers);
     match sort_entries(alloc, input, &mut maker, memory, &mut sink) {
         Ok(()) => finish_sorted(alloc, edition, sink, maker, memory, pack),
         Err(fault) => Err(BuildFault::from(fault)),
@@ -62,19 +67,19 @@ pub fn build_pack<R: Read, S: RunStore, M: StoreMaker<S> + Drop, W: Write>(
 }
 
 /// Ends the trees of a set in this edition, which have taken its entries, writes their pack, and gives its root.
-fn finish_sorted<S: RunStore, M: StoreMaker<S> + Drop, W: Write>(
+fn finish_sorted<S: RunStore, M: StoreMaker<S> + Drop, W: Write, B: BuildProgress>(
     alloc: Global,
     edition: Edition,
-    sink: TreesSink<S, M>,
+    sink: TreesSink<'_, S, M, B>,
     maker: M,
     memory: usize,
     pack: &mut W,
 ) -> Result<Digest, BuildFault>
-    ensures built { S.is_true ≡ true → (p : Publication) → shape_word sink.1 ≡ shape_in_edition edition
-        → IsSorted p edition (taken_by sink.2 sink.3 sink.4 sink.5)
+    ensures built { S.is_true ≡ true → (p : Publication) → shape_word sink.entry.1 ≡ shape_in_edition edition
+        → IsSorted p edition (taken_by sink.entry.2 sink.entry.3 sink.entry.4 sink.entry.5)
         → IfOk result (IsPackedAs p (W.contents pack.old) (W.contents pack.new)) }
-    ensures refused { S.is_true ≡ true → (p : Publication) → shape_word sink.1 ≡ shape_in_edition edition
-        → IsSorted p edition (taken_by sink.2 sink.3 sink.4 sink.5)
+    ensures refused { S.is_true ≡ true → (p : Publication) → shape_word sink.entry.1 ≡ shape_in_edition edition
+        → IsSorted p edition (taken_by sink.entry.2 sink.entry.3 sink.entry.4 sink.entry.5)
         → IfErr result (IsUnpacked p) }
     ensures untouched { IfErr result (λ fault. fault ≢ BuildFault.Device → pack.new ≡ pack.old) }
 {

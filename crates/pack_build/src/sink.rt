@@ -11,6 +11,7 @@ use crate::taken::{Given, Taken};
 use entry_sort::{EntrySink, SinkFault};
 use external_sort::{RunStore, StoreMaker};
 use level_files::TreesBuilder;
+use osm_index::BuildProgress;
 use std::alloc::Global;
 use std::marker::Model;
 use tree_build::Shape;
@@ -20,16 +21,18 @@ use tree_stream::StreamFault;
 /// Four trees that take their entries as they are sorted, and write their nodes. Contracts see the trees, their shape, and
 /// what each of them has taken.
 #[derive(Drop)]
-pub(crate) struct TreesSink<S: RunStore, M> {
+pub(crate) struct TreesSink<'a, S: RunStore, M, B> {
     builder: TreesBuilder<S, M>,
     shape: Shape,
+    /// Is told which tree comes next.
+    progress: &'a mut B,
     objects: Taken,
     tags: Taken,
     cells: Taken,
     backs: Taken,
 }
 
-impl<S: RunStore, M> Model for TreesSink<S, M> {
+impl<'a, S: RunStore, M, B> Model for TreesSink<'a, S, M, B> {
     ghost use Rattle.std.specs.Prelude.{◌≡◌, None};
     ghost use Rattle.level_files.specs.Built.{HasEntries, fault_told};
     ghost use Rattle.level_files.specs.declared.trees_builder.TreesBuilder.{TreesBuilder};
@@ -46,15 +49,22 @@ impl<S: RunStore, M> Model for TreesSink<S, M> {
         → HasEntries s.builder (shape_of s.shape) (taken_by s.objects s.tags s.cells s.backs) };
 }
 
-impl<S: RunStore, M: StoreMaker<S>> TreesSink<S, M> {
-    /// No entry was taken yet. The trees are of this shape, and each has a maker of stores.
-    pub(crate) fn new(alloc: Global, shape: Shape, makers: [M; 4]) -> TreesSink<S, M>
+impl<'a, S: RunStore, M: StoreMaker<S>, B: BuildProgress> TreesSink<'a, S, M, B> {
+    /// No entry was taken yet. The trees are of this shape, and each has a maker of stores. Which tree comes next is told
+    /// to `progress`.
+    pub(crate) fn new(
+        alloc: Global,
+        shape: Shape,
+        progress: &'a mut B,
+        makers: [M; 4],
+    ) -> TreesSink<'a, S, M, B>
         ensures none { (tree : TreeWord) → taken_by result.2 result.3 result.4 result.5 tree ≡ [] }
         ensures shape { result.1 ≡ shape }
     {
         TreesSink {
             builder: TreesBuilder::new(alloc, shape, makers),
             shape,
+            progress,
             objects: Taken::new(),
             tags: Taken::new(),
             cells: Taken::new(),
@@ -65,13 +75,14 @@ impl<S: RunStore, M: StoreMaker<S>> TreesSink<S, M> {
     /// The trees.
     pub(crate) fn into_builder(self) -> TreesBuilder<S, M>
         ensures { fault_told result ≡ None
-            → HasEntries result (shape_word self.1) (taken_by self.2 self.3 self.4 self.5) }
+            → HasEntries result (shape_word self.entry.1)
+            (taken_by self.entry.2 self.entry.3 self.entry.4 self.entry.5) }
     {
         self.builder
     }
 }
 
-impl<S: RunStore, M: StoreMaker<S>> EntrySink for TreesSink<S, M> {
+impl<S: RunStore, M: StoreMaker<S>, B: BuildProgress> EntrySink for TreesSink<'_, S, M, B> {
     ghost use Rattle.pack_build.specs.Taken.{taken_by};
     ghost use Rattle.std.proofs.Common.{◌∙◌};
     ghost use Rattle.std.specs.Prelude.{◌≡◌, refl, true};
@@ -85,6 +96,10 @@ impl<S: RunStore, M: StoreMaker<S>> EntrySink for TreesSink<S, M> {
     ghost itself = { λ sink. refl };
 
     ghost chained = { λ sink later last first second. first ∙ second };
+
+    fn begin(&mut self, tree: Tree, objects: u64) {
+        self.progress.begin(tree, objects as usize);
+    }
 
     fn take(&mut self, tree: Tree, key: &[u8], value: &[u8]) -> Result<(), SinkFault> {
         match self.builder.push(tree, key, value) {

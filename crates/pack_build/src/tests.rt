@@ -3,12 +3,12 @@
 use crate::{BuildFault, build_pack};
 use node_pack::write_pack;
 use opl_codec::{OplCause, read_set};
-use osm_index::Snapshot;
+use osm_index::{BuildProgress, Snapshot, Unwatched};
 use osm_keys::Edition;
 use scratch_files::ScratchFolder;
 use std::alloc::Global;
 use std::test::Fail;
-use tree_node::{Digest, Recorder};
+use tree_node::{Digest, Recorder, Tree};
 
 /// A small set, out of order, with a way that lists a node twice and a relation with members that aren't there.
 const SET: &[u8] = b"r3 v1 dV c0 t i0 u Ttype=route Mn2@stop,w9@,r3@\n\
@@ -43,6 +43,7 @@ fn writes_what_is_built_at_once(rt: HostRuntime) -> Result<(), Fail> {
                 alloc,
                 &mut &SET[..],
                 edition,
+                &mut Unwatched,
                 folder,
                 [folder; 4],
                 memory,
@@ -52,6 +53,43 @@ fn writes_what_is_built_at_once(rt: HostRuntime) -> Result<(), Fail> {
             assert_eq!(rt; built, pack);
         }
     }
+    Ok(())
+}
+
+/// Counts the trees that it is told of, and keeps the last.
+#[derive(Clone, Copy)]
+struct Told {
+    trees: usize,
+    last: Option<(Tree, usize)>,
+}
+
+impl BuildProgress for Told {
+    fn begin(&mut self, tree: Tree, object_count: usize) {
+        self.trees = self.trees.saturating_add(1);
+        self.last = Some((tree, object_count));
+    }
+}
+
+#[test]
+fn tells_of_each_tree(rt: HostRuntime) -> Result<(), Fail> {
+    let mut built = Vec::new(rt.alloc());
+    let folder = ScratchFolder::new(&rt, ".");
+    let mut told = Told {
+        trees: 0,
+        last: None,
+    };
+    build_pack(
+        rt.alloc(),
+        &mut &SET[..],
+        Edition::One,
+        &mut told,
+        folder,
+        [folder; 4],
+        1_000,
+        &mut built,
+    )?;
+    assert!(rt; told.trees == 4);
+    assert!(rt; told.last == Some((Tree::Backs, 5)));
     Ok(())
 }
 
@@ -65,6 +103,7 @@ fn an_object_that_comes_twice_is_refused_at_its_line(rt: HostRuntime) -> Result<
         rt.alloc(),
         &mut &text[..],
         edition,
+        &mut Unwatched,
         folder,
         [folder; 4],
         0,
@@ -89,6 +128,7 @@ fn without_a_folder_the_device_is_at_fault(rt: HostRuntime) -> Result<(), Fail> 
         rt.alloc(),
         &mut &SET[..],
         edition,
+        &mut Unwatched,
         folder,
         [folder; 4],
         1_000,
@@ -109,6 +149,7 @@ fn builds_after_refused_memory(rt: HostRuntime) {
             rt.alloc(),
             &mut &SET[..],
             edition,
+            &mut Unwatched,
             folder,
             [folder; 4],
             1_000,

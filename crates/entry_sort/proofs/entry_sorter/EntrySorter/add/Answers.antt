@@ -9,7 +9,7 @@ use Rattle.entry_sort.proofs.entry_sorter.EntrySorter.add.Goals as goal
 
 pub returns-clause-held : goal.returns-clause-held
 returns-clause-held g c =
-    let s : EntrySorter _ = record { objects = c.push_entries.new.sorter; tags = c.push_entries-2.new.sorter; cells = c.push_entries-3.new.sorter; backs = c.push_entries-4.new.sorter } in
+    let s : EntrySorter _ = record { objects = c.push_entries.new.sorter; tags = c.push_entries-2.new.sorter; cells = c.push_entries-3.new.sorter; backs = c.push_entries-4.new.sorter; object_count = c.saturating_add-self.result } in
     on_ok c.push_entries-4.result
     (λ held objects h. by_tree (λ (tree : Tree). HoldsTree g.S.RunStore.runs g.S.RunStore.in_hand (sorter_of s tree) (objects ++ c.args.set.now) tree)
     (c.in_ok-push_entries.ensures.held objects (h Objects))
