@@ -83,6 +83,8 @@ impl<S: RunStore> EntrySorter<S> {
         ensures many { S.is_true ≡ true → ((tree : TreeWord) → E.taken sink.old tree ≡ []) →
             (set : List Element) → IsObjectSet set → HoldsEntries S.runs S.in_hand self set →
             result ≡ Err SinkFault.TooMany → HasTooMany set }
+        ensures device { S.may_refuse ≡ false → S.is_true ≡ true → E.may_refuse ≡ false → (set : List Element) →
+            HoldsEntries S.runs S.in_hand self set → result ≢ Err SinkFault.Device }
     {
         let count = self.object_count;
         give_tree(alloc, self.objects, Tree::Objects, count, sink)?;

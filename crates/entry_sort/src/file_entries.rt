@@ -1,6 +1,6 @@
 //! Sorting the entries of the trees of a file's set.
 
-ghost use Rattle.std.specs.Prelude.{◌≡◌, ◌≢◌, Err, IfErr, IfSome, List, OnOk, Option, true, ℕ};
+ghost use Rattle.std.specs.Prelude.{◌≡◌, ◌≢◌, Err, IfErr, IfSome, List, OnOk, Option, false, true, ℕ};
 ghost use Rattle.osm_model.specs.Elements.{Element};
 ghost use Rattle.opl_codec.specs.Files.{HoldsSet};
 ghost use Rattle.entry_sort.specs.Sorting.{Explains, IsFresh, IsOutside, TakesFile};
@@ -45,6 +45,8 @@ pub fn sort_entries<R: Read, S: RunStore, M: StoreMaker<S>, E: EntrySink>(
     // Which fault it is.
     ensures refused { S.is_true ≡ true → IsFresh (E.taken sink.old) →
         IfSome (R.remaining reader.old) (λ file. IfErr result (Explains file)) }
+    // Where no store and no sink refuses, none is at fault.
+    ensures device { S.may_refuse ≡ false → S.is_true ≡ true → E.may_refuse ≡ false → result ≢ Err EntryFault.Device }
 {
     let mut gathering = match Gathering::new(alloc, maker, memory) {
         Ok(gathering) => gathering,
@@ -71,6 +73,8 @@ fn give_gathered<S: RunStore, E: EntrySink>(
     ensures refused { S.is_true ≡ true → IsFresh (E.taken sink.old) → (known : Option (List ℕ)) →
         HasGathered S.runs S.in_hand known end gathering →
         IfSome known (λ file. IfErr result (Explains file)) }
+    ensures device { S.may_refuse ≡ false → S.is_true ≡ true → E.may_refuse ≡ false → (known : Option (List ℕ)) →
+        HasGathered S.runs S.in_hand known end gathering → result ≢ Err EntryFault.Device }
 {
     match gathering.names.first_repeat(alloc) {
         Ok(Some(line)) => Err(EntryFault::Load(repeated(line))),
@@ -93,6 +97,8 @@ fn give_entries<S: RunStore, E: EntrySink>(
     ensures refused { S.is_true ≡ true → IsFresh (E.taken sink.old) → (known : Option (List ℕ)) →
         IsReady S.runs S.in_hand known end entries →
         IfSome known (λ file. IfErr result (Explains file)) }
+    ensures device { S.may_refuse ≡ false → S.is_true ≡ true → E.may_refuse ≡ false → (known : Option (List ℕ)) →
+        IsReady S.runs S.in_hand known end entries → result ≢ Err EntryFault.Device }
 {
     match end {
         ReadEnd::All => match entries.give(alloc, sink) {
@@ -124,6 +130,7 @@ fn repeated(line: u64) -> LoadFault
 fn sorting(fault: SortFault) -> EntryFault
     requires { fault ≢ SortFault.TooLong }
     ensures outside { (file : List ℕ) → Explains file result }
+    ensures device { result ≡ EntryFault.Device → fault ≡ SortFault.Device }
 {
     match fault {
         SortFault::Memory => EntryFault::Memory,

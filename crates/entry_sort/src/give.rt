@@ -35,6 +35,8 @@ pub(crate) fn give_tree<S: RunStore, E: EntrySink>(
     ensures many { S.is_true ≡ true → (set : List Element) → IsObjectSet set →
         HoldsTree S.runs S.in_hand sorter set tree → E.taken sink.old tree ≡ [] →
         result ≡ Err SinkFault.TooMany → HasTooMany set }
+    ensures device { S.may_refuse ≡ false → S.is_true ≡ true → E.may_refuse ≡ false → (set : List Element) →
+        HoldsTree S.runs S.in_hand sorter set tree → result ≢ Err SinkFault.Device }
 {
     sink.begin(tree, objects);
     match sorter.finish() {
@@ -58,17 +60,17 @@ fn give_sorted<S: RunStore, E: EntrySink>(
     ensures many { S.is_true ≡ true → (given : List Entry) → Gives S.runs sorted.old given →
         result ≡ Err SinkFault.TooMany →
         ENTRY_LIMIT < length (E.taken sink.old tree ++ once_from None given) }
+    ensures device { S.may_refuse ≡ false → S.is_true ≡ true → E.may_refuse ≡ false → (given : List Entry) →
+        Gives S.runs sorted.old given → result ≢ Err SinkFault.Device }
 {
     let mut last = LastKey::new(alloc);
-    'records: for _ in 0..u64::MAX {
+    'records: loop {
         match sorted.next() {
             Ok(true) => give_current(sorted, &mut last, tree, sink)?,
             Ok(false) => return Ok(()),
             Err(fault) => return Err(sink_fault(fault)),
         }
     }
-    // No device has so many records.
-    Err(SinkFault::Device)
 }
 
 /// Gives the record that the sorter is at to the sink, if its key is above the last one.

@@ -47,6 +47,8 @@ impl<S: RunStore> NameSorter<S> {
         ensures least { S.is_true ≡ true → IfOk result (λ found. (names : List Named) →
             HoldsNames S.runs S.in_hand self names → IsLeastRepeat (map name_record names) found) }
         ensures short { IfErr result (λ fault. fault ≢ SortFault.TooLong) }
+        ensures device { S.may_refuse ≡ false → S.is_true ≡ true → (names : List Named) →
+            HoldsNames S.runs S.in_hand self names → result ≢ Err SortFault.Device }
     {
         let mut sorted = self.sorter.finish()?;
         scan_all(alloc, &mut sorted)
@@ -58,16 +60,14 @@ fn scan_all<S: RunStore>(alloc: Global, sorted: &mut Sorted<S>) -> Result<Option
     ensures found { S.is_true ≡ true → (given : List Entry) → Gives S.runs sorted.old given →
         IfOk result (λ found. found ≡ (scan start given).found) }
     ensures short { IfErr result (λ fault. fault ≢ SortFault.TooLong) }
+    ensures device { S.may_refuse ≡ false → S.is_true ≡ true → (given : List Entry) → Gives S.runs sorted.old given →
+        result ≢ Err SortFault.Device }
 {
     let mut repeats = RepeatScan::new(alloc);
-    'records: for _ in 0..u64::MAX {
-        if !sorted.next()? {
-            return Ok(repeats.found);
-        }
+    'records: while sorted.next()? {
         scan_current(sorted, &mut repeats)?;
     }
-    // No device has so many records.
-    Err(SortFault::Device)
+    Ok(repeats.found)
 }
 
 /// Takes the record that the sorter is at.

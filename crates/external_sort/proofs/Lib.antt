@@ -6,3 +6,4 @@ pub mod PlaceLemmas
 pub mod ReadLemmas
 pub mod SpellingLemmas
 pub mod TurnLemmas
+pub mod UnreadLemmas

@@ -1,10 +1,11 @@
 -- What a sorter holds, and what is given.
 -- Source: this project.
-use Rattle.std.specs.Prelude.{◌≡◌, ℕ, ◌-◌, ◌≤◌, ◌^◌, ◌++◌, ◌⊎◌, Bool, true, false, cond, nat_lt, List, [], ◌∷◌, Option, Some, None, MatchOption, drop, length, slice_get}
+use Rattle.std.specs.Prelude.{◌≡◌, ℕ, ◌+◌, ◌-◌, ◌≤◌, ◌^◌, ◌++◌, ◌⊎◌, Bool, true, false, cond, nat_lt, List, [], ◌∷◌, Option, Some, None, MatchOption, drop, length, slice_get}
 use Rattle.std.specs.List.{flat_map}
 use Rattle.std.specs.List.Sorted.{IsPermutation}
 use Rattle.external_sort.specs.Records.{Entry, Rises}
 use Rattle.external_sort.specs.internal.Merging.{AreRuns, IsMerging, at, entry_of}
+use Rattle.external_sort.specs.internal.Unread.{unread_in}
 use Rattle.external_sort.specs.declared.record.Record.{Record}
 use Rattle.external_sort.specs.declared.sorted.Sorted.{Sorted}
 use Rattle.external_sort.specs.declared.sorter.Sorter.{Sorter}
@@ -16,6 +17,10 @@ IsTooLong key value = (2 ^ 16 ≤ length key) ⊎ (2 ^ 32 ≤ length value)
 -- the record that it is at; none before the first and after the last
 abbrev pub current : {S : Type 0} → Sorted S → Option Entry
 current s = cond (nat_lt 0 s.given) (slice_get s.batch (s.given - 1)) (at s.merge.current)
+
+-- a bound on the records that may yet be given, whatever the store gives back: those in memory, and one a byte of the runs
+unfoldable pub yet : {S : Type 0} → Sorted S → ℕ
+yet s = (length s.batch - s.given) + unread_in s.merge
 
 -- it is given
 abbrev pub IsCurrent : Option Entry → Option Record → Type 0

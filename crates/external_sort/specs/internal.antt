@@ -5,3 +5,4 @@ pub mod Reading
 pub mod Spelling
 pub mod Tagged
 pub mod Turns
+pub mod Unread

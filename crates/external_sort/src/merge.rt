@@ -1,13 +1,14 @@
 //! The merge of runs.
 
-ghost use Rattle.std.specs.Prelude.{◌≡◌, ◌≢◌, ◌<◌, ◌+◌, ℕ, List, [], Err, IfErr, IfOk, None, OnOk, false, length, slice_index_or, true};
+ghost use Rattle.std.specs.Prelude.{◌≡◌, ◌≢◌, ◌<◌, ◌≤◌, ◌+◌, ℕ, List, [], Err, IfErr, IfOk, None, Ok, OnOk, false, length, slice_index_or, true};
 ghost use Rattle.std.specs.BinaryHeap.{IsHeap, heap_items};
-ghost use Rattle.std.specs.List.{All};
+ghost use Rattle.std.specs.List.{All, sum_by};
 ghost use Rattle.external_sort.specs.Records.{Entry, Fits};
 ghost use Rattle.external_sort.specs.internal.Merging.{AreRuns, Begins, Goes, IsMerging, Ready, Shows, StateOf, Turn, entries};
 ghost use Rattle.external_sort.specs.internal.Reading.{HasLeft};
 ghost use Rattle.external_sort.specs.internal.Tagged.{UpTo};
 ghost use Rattle.external_sort.specs.internal.Turns.{turn_cmp};
+ghost use Rattle.external_sort.specs.internal.Unread.{unread_in, unread_with_own};
 
 use crate::fault::SortFault;
 use crate::record::Record;
@@ -64,6 +65,8 @@ impl<S: RunStore> Merge<S> {
     pub(crate) fn next(&mut self) -> Result<bool, SortFault>
         ensures goes { S.is_true ≡ true → IfOk result (λ more. (records : List Entry) → IsMerging S.runs self.old records →
             Goes S.runs more self.new records) }
+        ensures fewer { result ≡ Ok true → unread_in self.new < unread_in self.old }
+        ensures no_more { result ≡ Ok false → unread_in self.new ≤ unread_in self.old }
         ensures short { IfErr result (λ fault. fault ≢ SortFault.TooLong) }
         ensures device { S.may_refuse ≡ false → S.is_true ≡ true → (records : List Entry) →
             IsMerging S.runs self.old records → result ≢ Err SortFault.Device }
@@ -80,6 +83,8 @@ impl<S: RunStore> Merge<S> {
             Ready (S.runs self.new.store) turns (heap_items self.new.heap)) }
         ensures heap { OnOk result (IsHeap turn_cmp (heap_items self.old.heap) →
             IsHeap turn_cmp (heap_items self.new.heap)) }
+        ensures left { OnOk result
+            (sum_by unread_with_own (heap_items self.new.heap) ≤ unread_in self.old) }
         ensures short { IfErr result (λ fault. fault ≢ SortFault.TooLong) }
         ensures device { S.may_refuse ≡ false → S.is_true ≡ true → (turns : List Turn) →
             All Fits (entries turns) →

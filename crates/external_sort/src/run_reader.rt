@@ -1,10 +1,11 @@
 //! A reader of one run.
 
-ghost use Rattle.std.specs.Prelude.{◌≡◌, ◌≢◌, ◌≤◌, ℕ, List, Err, IfErr, IfOk, OnOk, false, length, true};
+ghost use Rattle.std.specs.Prelude.{◌≡◌, ◌≢◌, ◌+◌, ◌-◌, ◌<◌, ◌≤◌, ℕ, List, Err, IfErr, IfOk, Ok, OnOk, false, length, true};
 ghost use Rattle.std.specs.List.{All};
 ghost use Rattle.external_sort.specs.Records.{Entry, Fits, entry};
 ghost use Rattle.external_sort.specs.Runs.{run_at};
 ghost use Rattle.external_sort.specs.internal.Reading.{HasLeft, Begun, Moves, head, rest};
+ghost use Rattle.external_sort.specs.internal.Unread.{unread};
 
 use crate::fault::SortFault;
 use crate::header::read_header;
@@ -69,6 +70,9 @@ impl RunReader {
     pub(crate) fn advance<S: RunStore>(&mut self, store: &mut S) -> Result<bool, SortFault>
         ensures moves { S.is_true ≡ true → IfOk result (λ more. (es : List Entry) → All Fits es →
             HasLeft (S.runs store.old) self.old es → Moves more (S.runs store.old) self.new es) }
+        // Whatever the store gives back, a record takes some of what is unread.
+        ensures fewer { result ≡ Ok true → unread self.new < unread self.old }
+        ensures no_more { result ≡ Ok false → unread self.new ≤ unread self.old }
         ensures run { self.new.run ≡ self.old.run }
         ensures runs { OnOk result (S.runs store.new ≡ S.runs store.old) }
         ensures short { IfErr result (λ fault. fault ≢ SortFault.TooLong) }
@@ -97,6 +101,8 @@ impl RunReader {
         ensures rest { S.is_true ≡ true → OnOk result
             (rest (S.runs store.old) self.new ≡ rest (S.runs store.old) self.old) }
         ensures run { self.new.run ≡ self.old.run }
+        ensures left { OnOk result (length self.new.window + (self.new.len - self.new.offset)
+            ≡ length self.old.window + (self.old.len - self.old.offset)) }
         ensures len { self.new.len ≡ self.old.len }
         ensures end { self.new.record_end ≡ self.old.record_end }
         ensures runs { OnOk result (S.runs store.new ≡ S.runs store.old) }

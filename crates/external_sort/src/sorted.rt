@@ -1,8 +1,8 @@
 //! Giving records in order.
 
-ghost use Rattle.std.specs.Prelude.{◌≡◌, ◌≢◌, ℕ, List, Err, IfErr, IfOk, false, true};
+ghost use Rattle.std.specs.Prelude.{◌≡◌, ◌≢◌, ◌<◌, ◌≤◌, ℕ, List, Err, IfErr, IfOk, Ok, false, true};
 ghost use Rattle.external_sort.specs.Records.{Entry};
-ghost use Rattle.external_sort.specs.Sorting.{Gives, GoesOn, IsCurrent, current};
+ghost use Rattle.external_sort.specs.Sorting.{Gives, GoesOn, IsCurrent, current, yet};
 
 use crate::batch::Batch;
 use crate::fault::SortFault;
@@ -42,6 +42,9 @@ impl<S: RunStore> Sorted<S> {
     pub fn next(&mut self) -> Result<bool, SortFault>
         ensures next { S.is_true ≡ true → IfOk result (λ more. (records : List Entry) → Gives S.runs self.old records →
             GoesOn S.runs more self.new records) }
+        // Whatever the store gives back, there is an end: a loop over the records has this measure.
+        ensures fewer { result ≡ Ok true → yet self.new < yet self.old }
+        ensures no_more { result ≡ Ok false → yet self.new ≤ yet self.old }
         ensures short { IfErr result (λ fault. fault ≢ SortFault.TooLong) }
         ensures device { S.may_refuse ≡ false → S.is_true ≡ true → (records : List Entry) →
             Gives S.runs self.old records → result ≢ Err SortFault.Device }

@@ -28,3 +28,10 @@ returns-in-Ok-None-clause-refused g c is_true fresh known h =
 
 pub returns-in-Err-clause-refused : goal.returns-in-Err-clause-refused
 returns-in-Err-clause-refused g c is_true fresh known h = any_file known (λ file. Explains file c.sorting.result) c.sorting.ensures.outside
+
+pub returns-in-Ok-None-clause-device : goal.returns-in-Ok-None-clause-device
+returns-in-Ok-None-clause-device g c refuses is_true sinks known h =
+    let is : c.in-Ok-None.field-0 ≡ None = search rules in
+    let least = c.in-Ok-None.ensures.least is_true (names_of h.puts) (names_held g.S.RunStore.runs g.S.RunStore.in_hand c.args.end c.args.gathering h.puts h.taken) in
+    c.give_entries.ensures.device refuses is_true sinks known
+    (ready g.S.RunStore.runs g.S.RunStore.in_hand known c.args.end c.args.gathering h (subst (IsLeastRepeat (map name_record (names_of h.puts))) is least))

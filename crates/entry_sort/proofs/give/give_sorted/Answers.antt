@@ -1,4 +1,4 @@
-use Rattle.std.proofs.Common.{rules, ◌≡◌, ◌∙◌, ◌≤◌, sym, ap, subst, List, Option, [], ◌∷◌, ◌++◌, Bool, true, false, ℕ, length, length-append, append_assoc, append-nil, arith}
+use Rattle.std.proofs.Common.{rules, ◌≡◌, ◌∙◌, ◌≤◌, sym, ap, subst, Err, List, Option, [], ◌∷◌, ◌++◌, Bool, true, false, ℕ, length, length-append, append_assoc, append-nil, arith}
 use Rattle.external_sort.specs.Records.{Entry}
 use Rattle.external_sort.specs.Sorting.{GoesOn}
 use Rattle.tree_node.specs.Nodes.{Binding}
@@ -48,3 +48,16 @@ records-preserved g c = record {
             ∙ same,
       );
 }
+
+pub returns-in_err-give_current-in-Ok-true-clause-device :
+    goal.returns-in_err-give_current-in-Ok-true-clause-device
+returns-in_err-give_current-in-Ok-true-clause-device g c refuses is_true sinks given gives e =
+    let (left, has, same) = c.records.invariant.left is_true given gives in
+    let test : c.in-Ok-true.field-0 ≡ true = search rules in
+    let (x, more, is, at, has_more) = subst (λ (b : Bool). GoesOn g.S.RunStore.runs b c.next.new.self left) test (c.in-Ok-true.ensures.next is_true left has) in
+    c.in_err-give_current-in-Ok-true.ensures.device sinks x at (search rules)
+
+pub returns-in-Err-clause-device : goal.returns-in-Err-clause-device
+returns-in-Err-clause-device g c refuses is_true sinks given gives e =
+    let (left, has, same) = c.records.invariant.left is_true given gives in
+    c.in-Err.ensures.device refuses is_true left has (ap Err (c.sink_fault.ensures.device (let told = e in cc)))

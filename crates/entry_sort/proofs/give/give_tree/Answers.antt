@@ -1,4 +1,4 @@
-use Rattle.std.proofs.Common.{◌≡◌, ◌∙◌, ◌<◌, sym, ap, subst, List, ◌++◌, None, length}
+use Rattle.std.proofs.Common.{◌≡◌, ◌∙◌, ◌<◌, sym, ap, subst, Err, List, ◌++◌, None, length}
 use Rattle.osm_keys.specs.Entries.{AreEntriesOf}
 use Rattle.tree_node.specs.Nodes.{Binding}
 use Rattle.tree_node.specs.declared.limits.TheConstants.{ENTRY_LIMIT}
@@ -26,3 +26,12 @@ returns-in-Ok-clause-many g c is_true set is_set h empty e =
       are_entries set is_set c.args.tree h.records given h.members order rises,
       subst (λ (bs : List Binding). ENTRY_LIMIT < length (bs ++ once_from None given)) none many,
     )
+
+pub returns-in-Ok-clause-device : goal.returns-in-Ok-clause-device
+returns-in-Ok-clause-device g c refuses is_true sinks set h =
+    let (given, order, rises, gives) = c.in-Ok.ensures.given is_true h.records h.held in
+    c.give_sorted.ensures.device refuses is_true sinks given gives
+
+pub returns-in-Err-clause-device : goal.returns-in-Err-clause-device
+returns-in-Err-clause-device g c refuses is_true sinks set h e =
+    c.in-Err.ensures.device refuses is_true h.records h.held (ap Err (c.sink_fault.ensures.device (let told = e in cc)))

@@ -36,3 +36,18 @@ returns-clause-taken g c is_true empty set is_set h =
     (g.E.EntrySink.taken c.give_tree-4.new.sink) first.others second.others third.others others set objects tags cells backs)
     c.give_tree-4.ensures.others
     (c.give_tree-4.ensures.taken is_true set is_set (h Backs) none)
+
+pub returns-in_err-give_tree-clause-device : goal.returns-in_err-give_tree-clause-device
+returns-in_err-give_tree-clause-device g c refuses is_true sinks set h e =
+    c.in_err-give_tree.ensures.device refuses is_true sinks set (h Objects) (search rules)
+
+pub returns-in_err-give_tree-2-clause-device : goal.returns-in_err-give_tree-2-clause-device
+returns-in_err-give_tree-2-clause-device g c refuses is_true sinks set h e =
+    c.in_err-give_tree-2.ensures.device refuses is_true sinks set (h Tags) (search rules)
+
+pub returns-in_err-give_tree-3-clause-device : goal.returns-in_err-give_tree-3-clause-device
+returns-in_err-give_tree-3-clause-device g c refuses is_true sinks set h e =
+    c.in_err-give_tree-3.ensures.device refuses is_true sinks set (h Cells) (search rules)
+
+pub returns-clause-device : goal.returns-clause-device
+returns-clause-device g c refuses is_true sinks set h = c.give_tree-4.ensures.device refuses is_true sinks set (h Backs)

@@ -1,4 +1,4 @@
-use Rattle.std.proofs.Common.{◌≡◌, ℕ, List, Option, map}
+use Rattle.std.proofs.Common.{rules, ◌≡◌, ℕ, List, Option, map}
 use Rattle.external_sort.specs.Records.{Entry}
 use Rattle.external_sort.specs.Sorting.{Gives}
 use Rattle.entry_sort.specs.internal.Names.{HoldsNames, IsLeastRepeat, Named, name_record, scan, start}
@@ -15,3 +15,12 @@ returns-clause-least g c is_true =
     (λ found known names h.
     let (given, order, rises, gives) = c.in_ok-sorted.ensures.given is_true (map name_record names) h in
     found_of (map name_record names) given found order rises (known (given, gives)))
+
+pub returns-in_err-sorted-clause-device : goal.returns-in_err-sorted-clause-device
+returns-in_err-sorted-clause-device g c refuses is_true names h e =
+    c.in_err-sorted.ensures.device refuses is_true (map name_record names) h (search rules)
+
+pub returns-clause-device : goal.returns-clause-device
+returns-clause-device g c refuses is_true names h =
+    let (given, order, rises, gives) = c.in_ok-sorted.ensures.given is_true (map name_record names) h in
+    c.scan_all.ensures.device refuses is_true given gives
