@@ -9,4 +9,5 @@ mod LevelLemmas
 mod LayoutLemmas
 mod WriteLemmas
 mod TableLemmas
+mod FaultLemmas
 mod KnownLemmas

@@ -21,6 +21,11 @@ abbrev pub refusal_of_read : ReadBackFault → Refusal
 refusal_of_read reads.Memory = refusals.Memory
 refusal_of_read reads.Device = refusals.Device
 
+-- a node for which there is no memory leaves the pack unwritten
+abbrev pub unwritten_of_read : ReadBackFault → Unwritten
+unwritten_of_read reads.Memory = unwritten.NotWritten
+unwritten_of_read reads.Device = unwritten.Device
+
 abbrev pub fault_of_refusal : Refusal → AssemblyFault
 fault_of_refusal refusals.Memory = faults.Memory
 fault_of_refusal refusals.Device = faults.Device

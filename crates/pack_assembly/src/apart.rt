@@ -1,11 +1,11 @@
 //! Whether all nodes have digests of their own.
 
-ghost use Rattle.std.specs.Prelude.{◌≡◌, ◌≢◌, ◌↔◌, Err, ℕ, IfOk, IfSome, List, OnOk, Some, IsTrue, true};
+ghost use Rattle.std.specs.Prelude.{◌≡◌, ◌≢◌, ◌↔◌, ◌<◌, Err, ℕ, IfOk, IfSome, IsSome, List, Ok, OnOk, Some, IsTrue, false, length, true};
 ghost use Rattle.std.specs.List.{IsDistinct};
 ghost use Rattle.std.specs.Str.{bytes_eq};
 ghost use Rattle.external_sort.specs.Records.{Entry};
-ghost use Rattle.external_sort.specs.Sorting.{Gives, GoesOn, Holds, current};
-ghost use Rattle.pack_assembly.specs.internal.Keys.{NoneTwice, keys_in};
+ghost use Rattle.external_sort.specs.Sorting.{Gives, GoesOn, Holds, current, yet};
+ghost use Rattle.pack_assembly.specs.internal.Keys.{AreDigests, NoneTwice, keys_in};
 
 use crate::fault::AssemblyFault;
 use crate::refusal::Refusal;
@@ -19,6 +19,8 @@ pub(crate) fn check_apart<S: RunStore>(digests: Sorter<S>) -> Result<(), Assembl
     ensures clash { result ≡ Err AssemblyFault.Clash → S.is_true ≡ true → (records : List Entry)
         → Holds S.runs S.in_hand digests records → ¬ IsDistinct bytes_eq (keys_in records) }
     ensures short { result ≢ Err AssemblyFault.TooLong }
+    ensures device { S.may_refuse ≡ false → S.is_true ≡ true → (records : List Entry)
+        → Holds S.runs S.in_hand digests records → AreDigests records → result ≢ Err AssemblyFault.Device }
 {
     match digests.finish() {
         Ok(mut sorted) => check_sorted(&mut sorted),
@@ -33,12 +35,11 @@ fn check_sorted<S: RunStore>(sorted: &mut Sorted<S>) -> Result<(), AssemblyFault
     ensures clash { result ≡ Err AssemblyFault.Clash → S.is_true ≡ true → (given : List Entry)
         → Gives S.runs sorted.old given → ¬ NoneTwice (keys_in given) }
     ensures short { result ≢ Err AssemblyFault.TooLong }
+    ensures device { S.may_refuse ≡ false → S.is_true ≡ true → (given : List Entry)
+        → Gives S.runs sorted.old given → AreDigests given → result ≢ Err AssemblyFault.Device }
 {
     let mut before = None;
-    for _ in 0..u64::MAX {
-        if !go_on(sorted)? {
-            return Ok(());
-        }
+    'digests: while go_on(sorted)? {
         let Some(key) = key_of(sorted) else {
             return Err(AssemblyFault::Device);
         };
@@ -47,20 +48,24 @@ fn check_sorted<S: RunStore>(sorted: &mut Sorted<S>) -> Result<(), AssemblyFault
         }
         before = Some(key);
     }
-    Err(AssemblyFault::Device)
+    Ok(())
 }
 
 /// Goes to the next digest, and says whether there is one.
 fn go_on<S: RunStore>(sorted: &mut Sorted<S>) -> Result<bool, Refusal>
-    ensures { S.is_true ≡ true → (given : List Entry) → Gives S.runs sorted.old given
+    ensures next { S.is_true ≡ true → (given : List Entry) → Gives S.runs sorted.old given
         → IfOk result (λ more. GoesOn S.runs more sorted.new given) }
+    ensures fewer { result ≡ Ok true → yet sorted.new < yet sorted.old }
+    ensures device { S.may_refuse ≡ false → S.is_true ≡ true → (given : List Entry)
+        → Gives S.runs sorted.old given → result ≢ Err Refusal.Device }
 {
     Ok(sorted.next()?)
 }
 
 /// The digest that the sorter is at; none where it is at something else.
 fn key_of<S: RunStore>(sorted: &Sorted<S>) -> Option<Digest>
-    ensures { (e : Entry) → current sorted.now ≡ Some e → IfSome result (λ key. key.0 ≡ e.key) }
+    ensures key { (e : Entry) → current sorted.now ≡ Some e → IfSome result (λ key. key.0 ≡ e.key) }
+    ensures there { (e : Entry) → current sorted.now ≡ Some e → length e.key ≡ 32 → IsSome result }
 {
     let record = sorted.record()?;
     Digest::from_slice(record.key)

@@ -21,11 +21,10 @@ pub enum AssemblyFault {
     /// Memory was refused, before anything was written.
     #[error("no memory")]
     Memory,
-    /// The device of the levels or of the sorter failed, or gave back what it wasn't given. While the pack is written, also
-    /// where the levels find no memory for a node.
+    /// The device of the levels or of the sorter failed, or gave back what it wasn't given.
     #[error("the device failed")]
     Device,
-    /// The writer failed, or took nothing.
+    /// The writer failed or took nothing, or there was no memory for a node while the pack was written.
     #[error("the pack couldn't be written")]
     NotWritten,
 }

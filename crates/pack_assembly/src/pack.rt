@@ -42,9 +42,9 @@ use tree_stream::NodeLevels;
 ///
 /// `Clash` where two different nodes have one digest; then `TooLong` where a record would have 2^32 bytes or more or the pack
 /// more than 2^48; `Memory` where memory is refused before anything is written; `Device` where the levels or the sorter refuse,
-/// or give back what they weren't given, and where the levels find no memory for a node while the pack is written;
-/// `NotWritten` where the writer fails or takes nothing. A beginning of the pack may be written after the last two, and
-/// nothing is after the others.
+/// or give back what they weren't given; `NotWritten` where the writer fails or takes nothing, and where the levels find no
+/// memory for a node while the pack is written. A beginning of the pack may be written after the last two, and nothing is
+/// after the others.
 pub fn write_pack_of_levels<L: NodeLevels, S: RunStore, W: Write>(
     alloc: Global,
     trees: &BuiltTrees,

@@ -1,7 +1,8 @@
 //! Why a pack that was begun isn't written whole.
 
 ghost use Rattle.std.specs.Prelude.{◌≡◌};
-ghost use Rattle.pack_assembly.specs.declared.unwritten.Unwritten.TheVariants.{Device, NotWritten as Failed};
+ghost use Rattle.pack_assembly.specs.Faults.{unwritten_of_read};
+ghost use Rattle.pack_assembly.specs.declared.unwritten.Unwritten.TheVariants.{NotWritten as Failed};
 
 use byte_io::NotWritten;
 use tree_stream::ReadBackFault;
@@ -11,17 +12,18 @@ use tree_stream::ReadBackFault;
 pub(crate) enum Unwritten {
     /// The levels weren't read again as they were before.
     Device,
-    /// The writer failed, or took nothing.
+    /// The writer failed, or took nothing, or there was no memory for a node.
     NotWritten,
 }
 
 impl From<ReadBackFault> for Unwritten {
-    ghost from_gives = { λ _ unwritten. unwritten ≡ Device };
+    ghost from_gives = { λ fault unwritten. unwritten ≡ unwritten_of_read fault };
 
-    /// Memory counts as the device's too: the buffer has had room for nodes before, and nothing but a device may leave a
-    /// pack half written.
-    fn from(_fault: ReadBackFault) -> Unwritten {
-        Unwritten::Device
+    fn from(fault: ReadBackFault) -> Unwritten {
+        match fault {
+            ReadBackFault::Memory => Unwritten::NotWritten,
+            ReadBackFault::Device => Unwritten::Device,
+        }
     }
 }
 

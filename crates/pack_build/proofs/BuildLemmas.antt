@@ -139,6 +139,7 @@ explained_one file edition taken takes faults.Clash why = (taken_as takes.set ed
 explained_one file edition taken takes faults.TooLong why = (taken_as takes.set edition taken, published_in file edition taken takes why.0, why.1)
 explained_one file edition taken takes faults.Memory why = tt
 explained_one file edition taken takes faults.Device why = tt
+explained_one file edition taken takes faults.NotWritten why = tt
 
 explained_by : (file : List ℕ) (edition : Edition) (taken : Tree → List Binding) (takes : TakesFile taken file) (result : Result Digest BuildFault)
     → IfErr result (IsUnpacked (taken_as takes.set edition taken)) → IfErr result (Explains file edition)

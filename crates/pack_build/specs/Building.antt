@@ -9,7 +9,7 @@ use Rattle.osm_keys.specs.Publications.{HasTooMany, IsNodeIn, IsPublicationOf, P
 use Rattle.osm_keys.specs.declared.edition.Edition.{Edition}
 use Rattle.pack_assembly.specs.Packing.{IsPacked, IsTooLong}
 use Rattle.pack_build.specs.declared.fault.BuildFault.{BuildFault}
-use Rattle.pack_build.specs.declared.fault.BuildFault.TheVariants.{Load, TooMany, Clash, TooLong, Memory, Device}
+use Rattle.pack_build.specs.declared.fault.BuildFault.TheVariants.{Load, TooMany, Clash, TooLong, Memory, Device, NotWritten}
 
 -- a publication in this edition of a set that the file holds
 pub record IsPublicationIn (file : List ℕ) (edition : Edition) (p : Publication) : Type 0 where
@@ -33,3 +33,4 @@ Explains file edition Clash = (p : Publication) × IsPublicationIn file edition 
 Explains file edition TooLong = (p : Publication) × IsPublicationIn file edition p × IsTooLong p
 Explains file edition Memory = ⊤
 Explains file edition Device = ⊤
+Explains file edition NotWritten = ⊤

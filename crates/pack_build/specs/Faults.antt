@@ -30,4 +30,4 @@ fault_of_assembly assemblies.Clash = faults.Clash
 fault_of_assembly assemblies.TooLong = faults.TooLong
 fault_of_assembly assemblies.Memory = faults.Memory
 fault_of_assembly assemblies.Device = faults.Device
-fault_of_assembly assemblies.NotWritten = faults.Device
+fault_of_assembly assemblies.NotWritten = faults.NotWritten

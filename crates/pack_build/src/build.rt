@@ -36,7 +36,8 @@ use tree_stream::WriterFault;
 /// `Load` where the input holds no set of objects, by its first line at fault, or where its reader fails or never ends;
 /// `TooMany` where a tree would have more than 2^29 entries; then `Clash` where two different nodes have one digest; then
 /// `TooLong` where a record would have 2^32 bytes or more, or the pack more than 2^48; `Memory` where memory is refused;
-/// `Device` where a store or the writer fails. Nothing is written then, but where a device fails a beginning of the pack.
+/// `Device` where a store fails; `NotWritten` where the writer fails or takes nothing, and where there is no memory for a node
+/// while the pack is written. Nothing is written then, but after the last two a beginning of the pack may be.
 ///
 /// Clauses that speak of what is written have the premise that stores give back what they were told (`is_true`).
 pub fn build_pack<R: Read, S: RunStore, M: StoreMaker<S> + Drop, W: Write, B: BuildProgress>(
@@ -55,8 +56,9 @@ pub fn build_pack<R: Read, S: RunStore, M: StoreMaker<S> + Drop, W: Write, B: Bu
     // Which fault it is.
     ensures refused { S.is_true ≡ true → IfSome (R.remaining input.old) (λ file.
         IfErr result (Explains file edition)) }
-    // Nothing is written but where a device fails.
-    ensures untouched { IfErr result (λ fault. fault ≢ BuildFault.Device → pack.new ≡ pack.old) }
+    // Nothing is written but where a device or the writer fails.
+    ensures untouched { IfErr result (λ fault. fault ≢ BuildFault.Device → fault ≢ BuildFault.NotWritten
+        → pack.new ≡ pack.old) }
 {
     let mut maker = maker;
     let mut sink = TreesSink::new(alloc, shape_of(edition), progress, makers);
@@ -81,7 +83,8 @@ fn finish_sorted<S: RunStore, M: StoreMaker<S> + Drop, W: Write, B: BuildProgres
     ensures refused { S.is_true ≡ true → (p : Publication) → shape_word sink.entry.1 ≡ shape_in_edition edition
         → IsSorted p edition (taken_by sink.entry.2 sink.entry.3 sink.entry.4 sink.entry.5)
         → IfErr result (IsUnpacked p) }
-    ensures untouched { IfErr result (λ fault. fault ≢ BuildFault.Device → pack.new ≡ pack.old) }
+    ensures untouched { IfErr result (λ fault. fault ≢ BuildFault.Device → fault ≢ BuildFault.NotWritten
+        → pack.new ≡ pack.old) }
 {
     let mut maker = maker;
     match sink.into_builder().finish() {
@@ -111,7 +114,8 @@ fn write_trees<S: RunStore, W: Write>(
         → AreTreesOf p trees → IfOk result (IsPackedAs p (W.contents pack.old) (W.contents pack.new)) }
     ensures refused { S.is_true ≡ true → (p : Publication) → IsPublication p → p.edition ≡ edition
         → AreTreesOf p trees → IfErr result (IsUnpacked p) }
-    ensures untouched { IfErr result (λ fault. fault ≢ BuildFault.Device → pack.new ≡ pack.old) }
+    ensures untouched { IfErr result (λ fault. fault ≢ BuildFault.Device → fault ≢ BuildFault.NotWritten
+        → pack.new ≡ pack.old) }
 {
     let digests = Sorter::new(alloc, store, memory);
     let FinishedTrees {

@@ -26,9 +26,12 @@ pub enum BuildFault {
     /// Memory was refused.
     #[error("no memory")]
     Memory,
-    /// The device of the runs, or the writer, failed.
+    /// The device of the runs or of the levels failed.
     #[error("the device failed")]
     Device,
+    /// The writer failed or took nothing, or there was no memory for a node while the pack was written.
+    #[error("the pack couldn't be written")]
+    NotWritten,
 }
 
 impl From<EntryFault> for BuildFault {
@@ -53,7 +56,7 @@ impl From<AssemblyFault> for BuildFault {
             AssemblyFault::TooLong => BuildFault::TooLong,
             AssemblyFault::Memory => BuildFault::Memory,
             AssemblyFault::Device => BuildFault::Device,
-            AssemblyFault::NotWritten => BuildFault::Device,
+            AssemblyFault::NotWritten => BuildFault::NotWritten,
         }
     }
 }

@@ -156,10 +156,12 @@ fn builds_after_refused_memory(rt: HostRuntime) {
             &mut built,
         ) {
             Ok(_) => assert!(rt; built.as_slice().starts_with(b"OSMK")),
-            // Where a store or what is written finds no memory, that is a fault of the device.
-            Err(fault) => {
-                assert!(rt; fault == BuildFault::Memory || fault == BuildFault::Device);
-            }
+            // Where a store finds no memory, that is a fault of the device, and where what is written does, of the writer.
+            Err(fault) => assert!(rt;
+                fault == BuildFault::Memory
+                    || fault == BuildFault::Device
+                    || fault == BuildFault::NotWritten
+            ),
         }
     }
 }

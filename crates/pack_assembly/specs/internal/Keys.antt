@@ -1,5 +1,6 @@
 -- Digests that are sorted.
-use Rattle.std.specs.Prelude.{◌≢◌, ℕ, List, [], ◌∷◌, Option, None, Some, map, ⊤}
+use Rattle.std.specs.Prelude.{◌≡◌, ◌≢◌, ℕ, List, [], ◌∷◌, Option, None, Some, length, map, ⊤}
+use Rattle.std.specs.List.{Contains}
 use Rattle.external_sort.specs.Records.{Entry, entry}
 use Rattle.tree_node.specs.declared.digest.Digest.{Digest}
 
@@ -24,3 +25,7 @@ keys_in entries = map (λ (e : Entry). e.key) entries
 abbrev pub listed : Option Digest → List (List ℕ)
 listed None = []
 listed (Some key) = key.0 ∷ []
+
+-- each of these entries has the key of a digest
+abbrev pub AreDigests : List Entry → Type 0
+AreDigests entries = (e : Entry) → Contains entries e → length e.key ≡ 32

@@ -17,7 +17,7 @@ use Rattle.level_files.specs.Stored.{level_of_tree}
 use Rattle.level_files.specs.declared.trees_builder.FinishedTrees.{FinishedTrees}
 use Rattle.pack_assembly.specs.Packing.{IsPacked, IsTooLong}
 use Rattle.pack_build.specs.declared.fault.BuildFault.{BuildFault}
-use Rattle.pack_build.specs.declared.fault.BuildFault.TheVariants.{Load, TooMany, Clash, TooLong, Memory, Device}
+use Rattle.pack_build.specs.declared.fault.BuildFault.TheVariants.{Load, TooMany, Clash, TooLong, Memory, Device, NotWritten}
 
 -- the tops, the heights and the levels are those of the publication's trees
 pub record AreTreesOf {S : Type 0} (p : Publication) (trees : FinishedTrees S) : Type 0 where
@@ -44,3 +44,4 @@ IsUnpacked p Clash = IsPublication p × HasClash (IsNodeIn p) (IsNodeIn p)
 IsUnpacked p TooLong = IsPublication p × IsTooLong p
 IsUnpacked p Memory = ⊤
 IsUnpacked p Device = ⊤
+IsUnpacked p NotWritten = ⊤

@@ -19,6 +19,6 @@ returns-clause-refused g c = λ is_true p published edition trees.
     (λ is. c.in-Err.ensures.too_long (ap Err is) is_true is_true c.new-digests.ensures p published levels))
 
 pub returns-clause-untouched : goal.returns-clause-untouched
-returns-clause-untouched g c = λ differs. c.in-Err.ensures.untouched
+returns-clause-untouched g c = λ differs other. c.in-Err.ensures.untouched
     (λ is. differs (c.from.ensures ∙ ap fault_of_assembly is))
-    (λ is. differs (c.from.ensures ∙ ap fault_of_assembly is))
+    (λ is. other (c.from.ensures ∙ ap fault_of_assembly is))
