@@ -43,6 +43,14 @@ module _ (old new : Tree → ℕ → List (List ℕ)) (tree : Tree) (level : ℕ
   none_read false read [] is first same = refl
   none_read false read (n ∷ nodes) is first same = absurd (let e : [] ≡ spelling n ∷ spellings nodes = sym first.0 ∙ same in Prim.cc)
 
+  -- one fewer is left after each that is read, or measured
+  pub one_fewer : (more : Bool) (read : List ℕ) → more ≡ true → IsFirst old new tree level more read → length (old tree level) ≡ length (new tree level) + 1
+  one_fewer false read is first = absurd (Prim.cc)
+  one_fewer true read is first = omega (arith, ap (λ (l : List (List ℕ)). length l) first.1, ap (λ (l : List (List ℕ)). length l) first.2.there)
+
+  pub one_fewer_left : (len : NodeLen) → HasLen old new tree level (Some len) → length (old tree level) ≡ length (new tree level) + 1
+  one_fewer_left len has = omega (arith, ap (λ (l : List (List ℕ)). length l) has.2, ap (λ (l : List (List ℕ)). length l) has.4.there)
+
   -- the first of these nodes was measured, and the others are left
   pub record Measures (nodes : List Node) (len : NodeLen) (rest : List (List ℕ)) : Type 0 where
     pub node : Node

@@ -11,3 +11,4 @@ mod WriteLemmas
 mod TableLemmas
 mod FaultLemmas
 mod KnownLemmas
+mod CountLemmas

@@ -69,7 +69,7 @@ module _ (p : Publication) (is : IsPublication p) where
   pub row_are : (r : Row) → AllByRecursion IsNode (nodes_in p r)
   row_are r = all_of IsNode (nodes_in p r) (λ node among. (at_spells p is r.tree r.level node (in_row p is r node among)).0.0)
 
-  row_of_level : (r : Row) → AllByRecursion (IsOfLevel r.level) (nodes_in p r)
+  pub row_of_level : (r : Row) → AllByRecursion (IsOfLevel r.level) (nodes_in p r)
   row_of_level r = all_of (IsOfLevel r.level) (nodes_in p r) (λ node among.
       let (spells, tree_is, level_is) = at_spells p is r.tree r.level node (in_row p is r node among) in (spells.0, level_is))
 

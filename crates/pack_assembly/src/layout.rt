@@ -1,6 +1,6 @@
 //! Where the records of a pack will stand.
 
-ghost use Rattle.std.specs.Prelude.{◌≡◌, ◌≢◌, ◌⊎◌, ◌<◌, ◌≤◌, ◌+◌, ◌*◌, ◌^◌, Err, IfOk, IfSome, List, MatchResult, OnOk, true};
+ghost use Rattle.std.specs.Prelude.{◌≡◌, ◌≢◌, ◌⊎◌, ◌<◌, ◌≤◌, ◌+◌, ◌*◌, ◌^◌, Err, IfOk, IfSome, IsSome, List, MatchResult, OnOk, false, length, true, ℕ};
 ghost use Rattle.std.specs.List.{AllByRecursion, flat_map};
 ghost use Rattle.osm_keys.specs.Publications.{IsPublication, Publication};
 ghost use Rattle.tree_stream.specs.ReadBack.{HasLen};
@@ -49,6 +49,8 @@ pub(crate) fn lay_out<L: NodeLevels>(
         → AreNodesOf p (L.nodes levels.old)
         → AreLong first (flat_map (kepts_in p) rows.now) }
     ensures clash { result ≢ Err AssemblyFault.Clash }
+    ensures device { L.is_true ≡ true → L.may_refuse ≡ false → (p : Publication) → IsPublication p
+        → AreNodesOf p (L.nodes levels.old) → result ≢ Err AssemblyFault.Device }
     ensures nodes { OnOk result (L.nodes levels.new ≡ L.nodes levels.old) }
 {
     let mut placed = Vec::new(alloc);
@@ -77,6 +79,9 @@ fn end_of_row<L: NodeLevels>(row: Row, start: u64, levels: &mut L) -> Result<u64
         → AllByRecursion IsNode nodes → L.nodes levels.old row.tree row.level ≡ spellings nodes
         → AreLong start (kepts_of nodes) }
     ensures clash { result ≢ Err AssemblyFault.Clash }
+    ensures device { L.is_true ≡ true → L.may_refuse ≡ false → (nodes : List Node)
+        → L.nodes levels.old row.tree row.level ≡ spellings nodes → length nodes ≤ 2 ^ 29
+        → result ≢ Err AssemblyFault.Device }
     ensures nodes { OnOk result (L.nodes levels.new ≡ L.nodes levels.old) }
 {
     levels.rewind(row.tree, row.level);
@@ -94,6 +99,7 @@ fn end_of_row<L: NodeLevels>(row: Row, start: u64, levels: &mut L) -> Result<u64
 fn next_len<L: NodeLevels>(row: Row, levels: &mut L) -> Result<Option<NodeLen>, Refusal>
     ensures measured { L.is_true ≡ true → IfOk result (λ len.
         HasLen (L.unmeasured levels.old) (L.unmeasured levels.new) row.tree row.level len) }
+    ensures device { L.is_true ≡ true → L.may_refuse ≡ false → result ≢ Err Refusal.Device }
     ensures nodes { OnOk result (L.nodes levels.new ≡ L.nodes levels.old) }
 {
     Ok(levels.next_len(row.tree, row.level)?)
@@ -119,7 +125,8 @@ fn end_of_record(at: u64, len: NodeLen) -> Result<u64, AssemblyFault>
 
 /// The offset of the first record of a level.
 pub(crate) fn row_at(rows: &[PlacedRow], tree: Tree, level: u8) -> Option<u64>
-    ensures { IfSome result (HasRowAt rows.now tree level) }
+    ensures at { IfSome result (HasRowAt rows.now tree level) }
+    ensures there { (at : ℕ) → HasRowAt rows.now tree level at → IsSome result }
 {
     for placed in rows {
         if placed.row.tree == tree && placed.row.level == level {

@@ -1,6 +1,6 @@
 //! Writing the records of a level.
 
-ghost use Rattle.std.specs.Prelude.{◌≡◌, ◌-◌, ◌∷◌, ℕ, List, OnOk, Option, Some, drop, length, true};
+ghost use Rattle.std.specs.Prelude.{◌≡◌, ◌≢◌, ◌≤◌, ◌-◌, ◌^◌, ◌∷◌, ℕ, Err, List, OnOk, Option, Some, drop, false, length, true};
 ghost use Rattle.std.specs.Io.KnownBytes.{Appends};
 ghost use Rattle.std.specs.List.{flat_map};
 ghost use Rattle.byte_io.specs.Written.{AppendsFront};
@@ -42,6 +42,11 @@ pub(crate) fn write_level<L: NodeLevels, W: Write>(
         → AppendsFront (W.contents writer.old) (W.contents writer.new)
         (flat_map (record_bytes place_of) (kepts_of nodes)) }
     ensures nodes { OnOk result (L.nodes levels.new ≡ L.nodes levels.old) }
+    ensures device { L.is_true ≡ true → L.may_refuse ≡ false
+        → (place_of : List ℕ → Option Place) (nodes lower : List Node)
+        → L.nodes levels.old row.tree row.level ≡ spellings nodes
+        → IsAbove place_of (L.nodes levels.old row.tree (row.level - 1)) row below nodes lower
+        → length nodes ≤ 2 ^ 29 → result ≢ Err Unwritten.Device }
 {
     rewind_both(row, levels);
     let mut at = below;
@@ -99,6 +104,11 @@ fn write_record<L: NodeLevels, W: Write>(
         → AppendsFront (W.contents writer.old) (W.contents writer.new) (record_bytes place_of (kept_of own)) }
     ensures nodes { OnOk result (L.nodes levels.new ≡ L.nodes levels.old) }
     ensures unread { OnOk result (L.unread levels.new ≡ L.unread levels.old) }
+    ensures device { L.is_true ≡ true → L.may_refuse ≡ false
+        → (place_of : List ℕ → Option Place) (own : Node) (others lower : List Node)
+        → node.now ≡ spelling own
+        → IsAbove place_of (L.unmeasured levels.old row.tree (row.level - 1)) row at.old (own ∷ others) lower
+        → result ≢ Err Unwritten.Device }
 {
     if node.len() > NODE_LIMIT {
         return Err(Unwritten::Device);
@@ -134,6 +144,10 @@ fn write_children<L: NodeLevels, W: Write>(
         → AppendsFront (W.contents writer.old) (W.contents writer.new) (table place_of (child_digests own)) }
     ensures nodes { OnOk result (L.nodes levels.new ≡ L.nodes levels.old) }
     ensures unread { OnOk result (L.unread levels.new ≡ L.unread levels.old) }
+    ensures device { L.is_true ≡ true → L.may_refuse ≡ false
+        → (place_of : List ℕ → Option Place) (own : Node) (others lower : List Node)
+        → IsAbove place_of (L.unmeasured levels.old row.tree (row.level - 1)) row at.old (own ∷ others) lower
+        → count ≡ length (links_in own) → result ≢ Err Unwritten.Device }
 {
     if count == 0 {
         return Ok(());

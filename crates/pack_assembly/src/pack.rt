@@ -1,6 +1,6 @@
 //! Writing a pack of levels.
 
-ghost use Rattle.std.specs.Prelude.{◌≡◌, ◌≢◌, ◌⊎◌, ◌≤◌, ◌+◌, ◌-◌, ◌^◌, [], ◌∷◌, ◌++◌, Err, IfErr, IfOk, IfSome, OnErr, OnOk, true};
+ghost use Rattle.std.specs.Prelude.{◌≡◌, ◌≢◌, ◌⊎◌, ◌≤◌, ◌+◌, ◌-◌, ◌^◌, [], ◌∷◌, ◌++◌, Err, IfErr, IfOk, IfSome, IsSome, OnErr, OnOk, false, true, ℕ};
 ghost use Rattle.std.specs.Io.KnownBytes.{Appends};
 ghost use Rattle.std.specs.List.{Contains, flat_map};
 ghost use Rattle.byte_io.specs.Written.{AppendsFront};
@@ -71,6 +71,10 @@ pub fn write_pack_of_levels<L: NodeLevels, S: RunStore, W: Write>(
     ensures begun { L.is_true ≡ true → S.is_true ≡ true → Holds S.runs S.in_hand digests []
         → (p : Publication) → IsPublication p → AreLevelsOf p trees.now (L.nodes levels.old)
         → OnErr result (HasBegun p (W.contents writer.old) (W.contents writer.new) ⊎ (writer.new ≡ writer.old)) }
+    // Where no device refuses and each gives back what it was given, none is at fault.
+    ensures device { L.may_refuse ≡ false → S.may_refuse ≡ false → L.is_true ≡ true → S.is_true ≡ true
+        → Holds S.runs S.in_hand digests [] → (p : Publication) → IsPublication p
+        → AreLevelsOf p trees.now (L.nodes levels.old) → result ≢ Err AssemblyFault.Device }
 {
     let manifest = trees.manifest(alloc)?;
     let root = digest_of(manifest.as_slice());
@@ -130,6 +134,10 @@ fn lay_out_apart<L: NodeLevels, S: RunStore>(
         → Holds S.runs S.in_hand digests [] → (p : Publication) → IsPublication p
         → AreLevelsOf p trees.now (L.nodes levels.old) → root.now.0 ≡ root_of p → rows.now ≡ rows_in p
         → first ≡ 60 + record_len (manifest_kept p) → IsTooLong p }
+    ensures device { L.is_true ≡ true → L.may_refuse ≡ false → S.is_true ≡ true → S.may_refuse ≡ false
+        → Holds S.runs S.in_hand digests [] → (p : Publication) → IsPublication p
+        → AreLevelsOf p trees.now (L.nodes levels.old) → root.now.0 ≡ root_of p → rows.now ≡ rows_in p
+        → result ≢ Err AssemblyFault.Device }
     ensures nodes { OnOk result (L.nodes levels.new ≡ L.nodes levels.old) }
 {
     match check_nodes(trees, root, rows, levels, node, digests) {
@@ -155,6 +163,10 @@ fn check_nodes<L: NodeLevels, S: RunStore>(
         → AreLevelsOf p trees.now (L.nodes levels.old) → root.now.0 ≡ root_of p → rows.now ≡ rows_in p
         → Clash (IsNodeIn p) (IsNodeIn p) }
     ensures short { result ≢ Err AssemblyFault.TooLong }
+    ensures device { L.is_true ≡ true → L.may_refuse ≡ false → S.is_true ≡ true → S.may_refuse ≡ false
+        → Holds S.runs S.in_hand digests [] → (p : Publication) → IsPublication p
+        → AreLevelsOf p trees.now (L.nodes levels.old) → root.now.0 ≡ root_of p → rows.now ≡ rows_in p
+        → result ≢ Err AssemblyFault.Device }
     ensures nodes { OnOk result (L.nodes levels.new ≡ L.nodes levels.old) }
 {
     push_nodes(trees, root, rows, levels, node, &mut digests)?;
@@ -173,6 +185,8 @@ fn push_nodes<L: NodeLevels, S: RunStore>(
     ensures held { L.is_true ≡ true → (p : Publication) → IsPublication p → AreLevelsOf p trees.now (L.nodes levels.old)
         → rows.now ≡ rows_in p → OnOk result (Holds S.runs S.in_hand digests.old [] → Holds S.runs S.in_hand digests.new
         (key_entries (root.now.0 ∷ flat_map (λ row. digests_of (nodes_in p row)) rows.now))) }
+    ensures device { L.is_true ≡ true → L.may_refuse ≡ false → S.may_refuse ≡ false → (p : Publication)
+        → IsPublication p → AreLevelsOf p trees.now (L.nodes levels.old) → result ≢ Err Refusal.Device }
     ensures nodes { OnOk result (L.nodes levels.new ≡ L.nodes levels.old) }
 {
     push_digest(root, digests)?;
@@ -197,6 +211,9 @@ fn write_parts<L: NodeLevels, W: Write>(
     ensures begun { L.is_true ≡ true → (p : Publication) → IsReady p (L.nodes levels.old) rows.now
         → AreHeightsOf p trees.now.heights
         → AppendsFront (W.contents writer.old) (W.contents writer.new) (front.now ++ rest_of p) }
+    ensures device { L.is_true ≡ true → L.may_refuse ≡ false → (p : Publication)
+        → IsReady p (L.nodes levels.old) rows.now → AreHeightsOf p trees.now.heights
+        → result ≢ Err Unwritten.Device }
 {
     write_whole(writer, front)?;
     write_tops(rows, trees, levels, writer)?;
@@ -216,6 +233,9 @@ fn write_tops<L: NodeLevels, W: Write>(
     ensures begun { L.is_true ≡ true → (p : Publication) → IsReady p (L.nodes levels.old) rows.now
         → AreHeightsOf p trees.now.heights
         → AppendsFront (W.contents writer.old) (W.contents writer.new) (tops_table p) }
+    ensures device { L.is_true ≡ true → L.may_refuse ≡ false → (p : Publication)
+        → IsReady p (L.nodes levels.old) rows.now → AreHeightsOf p trees.now.heights
+        → result ≢ Err Unwritten.Device }
     ensures nodes { OnOk result (L.nodes levels.new ≡ L.nodes levels.old) }
 {
     write_top(rows, Tree::Objects, trees, levels, writer)?;
@@ -238,6 +258,9 @@ fn write_top<L: NodeLevels, W: Write>(
     ensures begun { L.is_true ≡ true → (p : Publication) → IsReady p (L.nodes levels.old) rows.now
         → AreHeightsOf p trees.now.heights
         → AppendsFront (W.contents writer.old) (W.contents writer.new) (top_table p tree) }
+    ensures device { L.is_true ≡ true → L.may_refuse ≡ false → (p : Publication)
+        → IsReady p (L.nodes levels.old) rows.now → AreHeightsOf p trees.now.heights
+        → result ≢ Err Unwritten.Device }
     ensures nodes { OnOk result (L.nodes levels.new ≡ L.nodes levels.old) }
 {
     let level = trees.height(tree).saturating_sub(1);
@@ -259,6 +282,8 @@ fn write_rows<L: NodeLevels, W: Write>(
         → OnOk result (Appends (W.contents writer.old) (W.contents writer.new) (rows_bytes p rows.now)) }
     ensures begun { L.is_true ≡ true → (p : Publication) → IsReady p (L.nodes levels.old) rows.now
         → AppendsFront (W.contents writer.old) (W.contents writer.new) (rows_bytes p rows.now) }
+    ensures device { L.is_true ≡ true → L.may_refuse ≡ false → (p : Publication)
+        → IsReady p (L.nodes levels.old) rows.now → result ≢ Err Unwritten.Device }
 {
     for placed in rows {
         write_row(placed.row, rows, levels, node, writer)?;
@@ -280,6 +305,8 @@ fn write_row<L: NodeLevels, W: Write>(
     ensures begun { L.is_true ≡ true → (p : Publication) → IsReady p (L.nodes levels.old) rows.now
         → Contains (rows_in p) row
         → AppendsFront (W.contents writer.old) (W.contents writer.new) (row_bytes p row) }
+    ensures device { L.is_true ≡ true → L.may_refuse ≡ false → (p : Publication)
+        → IsReady p (L.nodes levels.old) rows.now → Contains (rows_in p) row → result ≢ Err Unwritten.Device }
     ensures nodes { OnOk result (L.nodes levels.new ≡ L.nodes levels.old) }
 {
     let Some(below) = below_row(row, rows) else {
@@ -290,7 +317,8 @@ fn write_row<L: NodeLevels, W: Write>(
 
 /// Where the first record of the level below a row stands; leaves have none.
 fn below_row(row: Row, rows: &[PlacedRow]) -> Option<u64>
-    ensures { row.level ≢ 0 → IfSome result (HasRowAt rows.now row.tree (row.level - 1)) }
+    ensures at { row.level ≢ 0 → IfSome result (HasRowAt rows.now row.tree (row.level - 1)) }
+    ensures there { (at : ℕ) → HasRowAt rows.now row.tree (row.level - 1) at → IsSome result }
 {
     if row.level == 0 {
         return Some(0);

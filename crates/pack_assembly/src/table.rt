@@ -1,6 +1,6 @@
 //! The places of children.
 
-ghost use Rattle.std.specs.Prelude.{◌≡◌, ◌≤◌, ◌∷◌, [], ℕ, List, OnOk, Option, length, take, drop, true};
+ghost use Rattle.std.specs.Prelude.{◌≡◌, ◌≢◌, ◌≤◌, ◌∷◌, [], ℕ, Err, List, OnOk, Option, false, length, take, drop, true};
 ghost use Rattle.std.specs.Io.KnownBytes.{Appends};
 ghost use Rattle.byte_io.specs.Written.{AppendsFront};
 ghost use Rattle.tree_node.specs.Nodes.{Node};
@@ -38,6 +38,9 @@ pub(crate) fn write_table<L: NodeLevels, W: Write>(
         → AppendsFront (W.contents writer.old) (W.contents writer.new) (table place_of (digests_of (take count nodes))) }
     ensures nodes { OnOk result (L.nodes levels.new ≡ L.nodes levels.old) }
     ensures unread { OnOk result (L.unread levels.new ≡ L.unread levels.old) }
+    ensures device { L.is_true ≡ true → L.may_refuse ≡ false → (place_of : List ℕ → Option Place) (nodes : List Node)
+        → IsAmong place_of (L.unmeasured levels.old row.tree row.level) at.old nodes → count ≤ length nodes
+        → result ≢ Err Unwritten.Device }
 {
     for _ in 0..count {
         write_next_place(row, at, levels, writer)?;
@@ -63,6 +66,10 @@ fn write_next_place<L: NodeLevels, W: Write>(
         → AppendsFront (W.contents writer.old) (W.contents writer.new) (table place_of (digests_of (node ∷ []))) }
     ensures nodes { OnOk result (L.nodes levels.new ≡ L.nodes levels.old) }
     ensures unread { OnOk result (L.unread levels.new ≡ L.unread levels.old) }
+    ensures device { L.is_true ≡ true → L.may_refuse ≡ false
+        → (place_of : List ℕ → Option Place) (node : Node) (others : List Node)
+        → IsAmong place_of (L.unmeasured levels.old row.tree row.level) at.old (node ∷ others)
+        → result ≢ Err Unwritten.Device }
 {
     let Some(node) = levels.next_len(row.tree, row.level)? else {
         return Err(Unwritten::Device);

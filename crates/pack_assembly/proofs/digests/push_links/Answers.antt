@@ -15,5 +15,5 @@ loop-child-preserved g c =
       keys ++ key ∷ [],
       append_assoc keys (key ∷ []) (map (λ (link : Link). link.child) c.next.new.self) ∙ ap (λ (ls : List Link). keys ++ map (λ (link : Link). link.child) ls) (sym c.in-Some.ensures.steps) ∙ joined,
       pushed_more (Holds g.S.RunStore.runs g.S.RunStore.in_hand c.args.digests.now) (Holds g.S.RunStore.runs g.S.RunStore.in_hand c.loop-child.digests)
-          (Holds g.S.RunStore.runs g.S.RunStore.in_hand c.push_digest.new.digests) keys (key ∷ []) pushed (λ records held. c.in_ok-push_digest.ensures records held),
+          (Holds g.S.RunStore.runs g.S.RunStore.in_hand c.push_digest.new.digests) keys (key ∷ []) pushed (λ records held. c.in_ok-push_digest.ensures.held records held),
     )

@@ -72,3 +72,10 @@ returns-then-count-eq0-clause-past g c = λ true place_of own others lower above
 pub returns-then-count-eq0-clause-begun : goal.returns-then-count-eq0-clause-begun
 returns-then-count-eq0-clause-begun g c = λ true place_of own others lower above is.
     front_none (g.W.Write.contents c.args.writer.now) (table place_of (child_digests own))
+
+pub returns-clause-device : goal.returns-clause-device
+returns-clause-device g c = λ true refuses place_of own others lower above is.
+    let first = first_below own others lower above.joined in
+    let some : length (links_in own) ≢ 0 = λ none. c.if-count-eq0.false (is ∙ none) in
+    let among = below place_of (g.L.NodeLevels.unmeasured c.args.levels.now) c.args.row c.lower_row.result c.args.at.now own others lower c.lower_row.ensures.tree c.lower_row.ensures.level above some in
+    c.write_table.ensures.device true refuses place_of lower among (subst (λ (n : ℕ). n ≤ length lower) (sym is) first.few)

@@ -1,4 +1,4 @@
-use Rattle.std.proofs.Common.{◌≡◌, ◌-◌, ℕ, List, Option, true}
+use Rattle.std.proofs.Common.{◌≡◌, ◌+◌, ◌-◌, ℕ, List, Option, length, true}
 use Rattle.std.specs.Io.KnownBytes.{Appends}
 use Rattle.tree_node.specs.Nodes.{Node}
 use Rattle.node_pack.specs.declared.place.Place.{Place}
@@ -16,3 +16,4 @@ invariant-loop g l =
     → IsAbove place_of (g.L.NodeLevels.unmeasured l.initial.levels l.row.tree (l.row.level - 1)) l.row l.fn.below nodes lower
     → IsBeingWritten place_of l.row nodes (g.L.NodeLevels.unread l.levels l.row.tree l.row.level) (g.L.NodeLevels.unmeasured l.levels l.row.tree (l.row.level - 1)) l.at
     (Appends (g.W.Write.contents l.initial.writer) (g.W.Write.contents l.writer)))
+    × (g.L.NodeLevels.is_true ≡ true → length (g.L.NodeLevels.unread l.levels l.row.tree l.row.level) + l.counter ≡ length (g.L.NodeLevels.unread l.initial.levels l.row.tree l.row.level))

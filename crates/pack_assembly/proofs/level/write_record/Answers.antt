@@ -47,3 +47,9 @@ returns-clause-begun g c = λ true place_of own others lower read above.
     (three_begun (g.W.Write.contents c.args.writer.now) (g.W.Write.contents c.write_whole.new.writer) (g.W.Write.contents c.write_whole-2.new.writer) (g.W.Write.contents c.write_children.new.writer)
     c.to_be_bytes.result (to_be_bytes w32 (length c.args.node.now)) c.args.node.now (table place_of (child_digests own)) (table place_of (child_digests own)) c.to_be_bytes.ensures refl
     c.in_ok-write_whole.ensures.whole c.in_ok-write_whole-2.ensures.whole tabled)
+
+pub returns-clause-device : goal.returns-clause-device
+returns-clause-device g c = λ true refuses place_of own others lower read above.
+    let told : Some c.in-Some.count ≡ Some (length (links_in own)) = c.in-Some.ensures own (above.are.0.0, read) above.are.0.1 in
+    let is : c.in-Some.count ≡ length (links_in own) = Prim.cc in
+    c.write_children.ensures.device true refuses place_of own others lower above is

@@ -1,5 +1,5 @@
 use Rattle.std.proofs.Common.{sym, subst}
-use Rattle.pack_assembly.specs.declared.fault.AssemblyFault.TheVariants.{Clash}
+use Rattle.pack_assembly.specs.declared.fault.AssemblyFault.TheVariants.{Clash, Device}
 use Rattle.pack_assembly.specs.declared.layout.Layout.{Layout}
 use Rattle.pack_assembly.specs.internal.Order.{AreNodesOf}
 use Rattle.pack_assembly.proofs.KnownLemmas.{laid_ready, long_first}
@@ -24,3 +24,11 @@ returns-in-Ok-clause-too_long g c = λ long true store holds p is are root rows 
 pub returns-in-Err-clause-clash : goal.returns-in-Err-clause-clash
 returns-in-Err-clause-clash g c = λ clash true store holds p is are root rows.
     c.in-Err.ensures.clash (err_again {A = Layout} {B = Unit {0}} c.in-Err.fault Clash clash) true store holds p is are root rows
+
+pub returns-in-Ok-clause-device : goal.returns-in-Ok-clause-device
+returns-in-Ok-clause-device g c = λ true refuses store sorts holds p is are root rows.
+    c.lay_out.ensures.device true refuses p is (subst (AreNodesOf p) (sym c.in-Ok.ensures.nodes) are.levels)
+
+pub returns-in-Err-clause-device : goal.returns-in-Err-clause-device
+returns-in-Err-clause-device g c = λ true refuses store sorts holds p is are root rows told.
+    c.in-Err.ensures.device true refuses store sorts holds p is are root rows (err_again {A = Layout} {B = Unit {0}} c.in-Err.fault Device told)

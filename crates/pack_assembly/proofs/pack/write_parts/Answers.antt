@@ -1,4 +1,4 @@
-use Rattle.std.proofs.Common.{◌++◌, ℕ, List, ap, subst}
+use Rattle.std.proofs.Common.{rules, ◌++◌, ℕ, List, ap, subst}
 use Rattle.std.specs.Io.KnownBytes.{Appends}
 use Rattle.std.proofs.KnownBytes.{Appends-trans}
 use Rattle.byte_io.specs.Written.{AppendsFront}
@@ -38,3 +38,10 @@ returns-clause-begun g c = λ true p ready heights.
     subst (λ (rest : List ℕ). AppendsFront (g.W.Write.contents c.args.writer.now) (g.W.Write.contents c.write_rows.new.writer) (c.args.front.now ++ rest)) same
     (front_of_both (g.W.Write.contents c.args.writer.now) (g.W.Write.contents c.write_whole.new.writer) (g.W.Write.contents c.write_rows.new.writer) c.args.front.now (tops_table p ++ rows_bytes p c.args.rows.now) first
     (front_of_both (g.W.Write.contents c.write_whole.new.writer) (g.W.Write.contents c.write_tops.new.writer) (g.W.Write.contents c.write_rows.new.writer) (tops_table p) (rows_bytes p c.args.rows.now) second (c.write_rows.ensures.begun true p now)))
+
+pub returns-in_err-write_tops-clause-device : goal.returns-in_err-write_tops-clause-device
+returns-in_err-write_tops-clause-device g c = λ true refuses p ready heights told. c.in_err-write_tops.ensures.device true refuses p ready heights (search rules)
+
+pub returns-clause-device : goal.returns-clause-device
+returns-clause-device g c = λ true refuses p ready heights.
+    c.write_rows.ensures.device true refuses p (ready_on p (g.L.NodeLevels.nodes c.args.levels.now) (g.L.NodeLevels.nodes c.write_tops.new.levels) c.args.rows.now ready c.in_ok-write_tops.ensures.nodes)

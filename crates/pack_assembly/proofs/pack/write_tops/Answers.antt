@@ -1,4 +1,4 @@
-use Rattle.std.proofs.Common.{◌++◌}
+use Rattle.std.proofs.Common.{rules, ◌++◌}
 use Rattle.std.proofs.KnownBytes.{Appends-trans}
 use Rattle.tree_node.specs.declared.tree.Tree.TheVariants.{Backs, Cells, Objects, Tags}
 use Rattle.pack_assembly.specs.internal.Placing.{top_table}
@@ -49,3 +49,29 @@ returns-clause-whole g c = λ true p ready heights.
     let r4 = ready_on p (g.L.NodeLevels.nodes c.write_top-2.new.levels) (g.L.NodeLevels.nodes c.write_top-3.new.levels) c.args.rows.now r3 c.in_ok-write_top-3.ensures.nodes in
     let w3 = c.in_ok-write_top-3.ensures.whole true p r3 heights in
     on_ok c.write_top-4.result (c.write_top-4.ensures.whole true p r4 heights) (λ w4. (Appends-trans (g.W.Write.contents c.args.writer.now) (g.W.Write.contents c.write_top.new.writer) (g.W.Write.contents c.write_top-4.new.writer) (top_table p Objects) (top_table p Tags ++ (top_table p Cells ++ top_table p Backs)) w1 (Appends-trans (g.W.Write.contents c.write_top.new.writer) (g.W.Write.contents c.write_top-2.new.writer) (g.W.Write.contents c.write_top-4.new.writer) (top_table p Tags) (top_table p Cells ++ top_table p Backs) w2 (Appends-trans (g.W.Write.contents c.write_top-2.new.writer) (g.W.Write.contents c.write_top-3.new.writer) (g.W.Write.contents c.write_top-4.new.writer) (top_table p Cells) (top_table p Backs) w3 w4))))
+
+pub returns-in_err-write_top-clause-device : goal.returns-in_err-write_top-clause-device
+returns-in_err-write_top-clause-device g c = λ true refuses p ready heights told.
+    let r1 = ready in
+    c.in_err-write_top.ensures.device true refuses p r1 heights (search rules)
+
+pub returns-in_err-write_top-2-clause-device : goal.returns-in_err-write_top-2-clause-device
+returns-in_err-write_top-2-clause-device g c = λ true refuses p ready heights told.
+    let r1 = ready in
+    let r2 = ready_on p (g.L.NodeLevels.nodes c.args.levels.now) (g.L.NodeLevels.nodes c.write_top.new.levels) c.args.rows.now r1 c.in_ok-write_top.ensures.nodes in
+    c.in_err-write_top-2.ensures.device true refuses p r2 heights (search rules)
+
+pub returns-in_err-write_top-3-clause-device : goal.returns-in_err-write_top-3-clause-device
+returns-in_err-write_top-3-clause-device g c = λ true refuses p ready heights told.
+    let r1 = ready in
+    let r2 = ready_on p (g.L.NodeLevels.nodes c.args.levels.now) (g.L.NodeLevels.nodes c.write_top.new.levels) c.args.rows.now r1 c.in_ok-write_top.ensures.nodes in
+    let r3 = ready_on p (g.L.NodeLevels.nodes c.write_top.new.levels) (g.L.NodeLevels.nodes c.write_top-2.new.levels) c.args.rows.now r2 c.in_ok-write_top-2.ensures.nodes in
+    c.in_err-write_top-3.ensures.device true refuses p r3 heights (search rules)
+
+pub returns-clause-device : goal.returns-clause-device
+returns-clause-device g c = λ true refuses p ready heights.
+    let r1 = ready in
+    let r2 = ready_on p (g.L.NodeLevels.nodes c.args.levels.now) (g.L.NodeLevels.nodes c.write_top.new.levels) c.args.rows.now r1 c.in_ok-write_top.ensures.nodes in
+    let r3 = ready_on p (g.L.NodeLevels.nodes c.write_top.new.levels) (g.L.NodeLevels.nodes c.write_top-2.new.levels) c.args.rows.now r2 c.in_ok-write_top-2.ensures.nodes in
+    let r4 = ready_on p (g.L.NodeLevels.nodes c.write_top-2.new.levels) (g.L.NodeLevels.nodes c.write_top-3.new.levels) c.args.rows.now r3 c.in_ok-write_top-3.ensures.nodes in
+    c.write_top-4.ensures.device true refuses p r4 heights

@@ -1,4 +1,4 @@
-use Rattle.std.proofs.Common.{◌≡◌, ◌<◌, ◌+◌, ℕ, arith, drop, get_or, length, take, subst, ◌∙◌}
+use Rattle.std.proofs.Common.{rules, ◌≡◌, ◌<◌, ◌+◌, ℕ, arith, drop, get_or, length, take, subst, ◌∙◌}
 use Rattle.std.specs.Io.KnownBytes.{Appends}
 use Rattle.node_pack.specs.Packs.{table}
 use Rattle.tree_node.specs.Trees.{no_node}
@@ -39,3 +39,10 @@ returns-clause-begun g c = λ true place_of nodes among few.
     let all : c.loop.counter ≡ c.args.count = omega (arith, c.loop-test.false, end) in
     front_of_whole (g.W.Write.contents c.args.writer.now) (g.W.Write.contents c.loop.writer) (table place_of (digests_of (take c.args.count nodes)))
     (subst (λ (n : ℕ). Appends (g.W.Write.contents c.args.writer.now) (g.W.Write.contents c.loop.writer) (table place_of (digests_of (take n nodes)))) all so_far.0)
+
+pub returns-in_err-write_next_place-clause-device : goal.returns-in_err-write_next_place-clause-device
+returns-in_err-write_next_place-clause-device g c = λ true refuses place_of nodes among few told.
+    let so_far = c.loop.invariant.2 true place_of nodes among few in
+    let low : c.loop.counter < length nodes = omega (arith, few, c.loop-test.true) in
+    c.in_err-write_next_place.ensures.device true refuses place_of (get_or nodes c.loop.counter no_node) (drop (c.loop.counter + 1) nodes)
+    (among_next place_of (g.L.NodeLevels.unmeasured c.loop.levels c.args.row.tree c.args.row.level) c.loop.at nodes c.loop.counter no_node low so_far.1) (search rules)
