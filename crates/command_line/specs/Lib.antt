@@ -13,6 +13,7 @@ pub mod ListenOptions
 pub mod MaxBytesOption
 pub mod MaxSizeOption
 pub mod MaxWorkOption
+pub mod MemoryOption
 pub mod Numbers
 pub mod PackCommand
 pub mod ProveCommand

@@ -77,12 +77,17 @@ pub enum Job {
         /// The most work that the query may take, if there is a limit.
         max_work: Option<u64>,
     },
-    /// `pack FILE PACK [--edition 1|2] [--sequence N]`: write the pack of a set, and tell the root.
+    /// `pack FILE PACK [--memory BYTES] [--temp DIR] [--edition 1|2] [--sequence N]`: write the pack of a set, and tell the
+    /// root.
     Pack {
         /// The OPL file with the set's objects.
         file: String,
         /// The file that the pack is written to.
         pack_file: String,
+        /// How many bytes of the set may be held in memory at a time.
+        memory: u64,
+        /// The folder for temporary files, if one is named.
+        temp: Option<String>,
         /// The edition of the root.
         edition: Edition,
     },

@@ -19,6 +19,7 @@ mod listen_options;
 mod max_bytes_option;
 mod max_size_option;
 mod max_work_option;
+mod memory_option;
 mod pack_command;
 mod program_command;
 mod prove_command;

@@ -4,22 +4,30 @@ use super::are_shown;
 use super::fetch_and_relay::{Row, is_row};
 use std::test::Fail;
 
-pub(super) const PACK: [(&str, &str); 4] = [
+pub(super) const PACK: [(&str, &str); 6] = [
     (
         "m pack a.opl a.pack",
-        "Pack { file: \"a.opl\", pack_file: \"a.pack\", edition: Two { sequence: 0 } }",
+        "Pack { file: \"a.opl\", pack_file: \"a.pack\", memory: 1073741824, temp: None, edition: Two { sequence: 0 } }",
     ),
     (
-        "m pack --sequence 7 a.opl a.pack --edition 2",
-        "Pack { file: \"a.opl\", pack_file: \"a.pack\", edition: Two { sequence: 7 } }",
+        "m pack --sequence 7 a.opl a.pack --edition 2 --memory 5",
+        "Pack { file: \"a.opl\", pack_file: \"a.pack\", memory: 5, temp: None, edition: Two { sequence: 7 } }",
     ),
     (
-        "m pack a.opl --edition=1 a.pack",
-        "Pack { file: \"a.opl\", pack_file: \"a.pack\", edition: One }",
+        "m pack a.opl --edition=1 --temp /t a.pack",
+        "Pack { file: \"a.opl\", pack_file: \"a.pack\", memory: 1073741824, temp: Some(\"/t\"), edition: One }",
+    ),
+    (
+        "m pack --memory=18446744073709551615 --temp= a b",
+        "Pack { file: \"a\", pack_file: \"b\", memory: 18446744073709551615, temp: Some(\"\"), edition: Two { sequence: 0 } }",
+    ),
+    (
+        "m pack a --memory 0 b --temp .",
+        "Pack { file: \"a\", pack_file: \"b\", memory: 0, temp: Some(\".\"), edition: Two { sequence: 0 } }",
     ),
     (
         "m pack -- -a -b",
-        "Pack { file: \"-a\", pack_file: \"-b\", edition: Two { sequence: 0 } }",
+        "Pack { file: \"-a\", pack_file: \"-b\", memory: 1073741824, temp: None, edition: Two { sequence: 0 } }",
     ),
 ];
 
