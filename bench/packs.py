@@ -6,6 +6,7 @@ import shlex
 import sqlite3
 import subprocess
 import sys
+import time
 from pathlib import Path
 
 from sqlite_answers import QUESTIONS, load
@@ -46,15 +47,37 @@ def measure(objects, runs, given, *programs):
     subprocess.run([sys.executable, HERE / "measure.py", str(objects), str(runs), given, *words], check=True)
 
 
+def scratch_of(words):
+    """The most bytes that the temporary files of the words have together."""
+    most = 0
+    with subprocess.Popen(words, stdout=subprocess.DEVNULL) as running:
+        while running.poll() is None:
+            held = 0
+            for entry in Path(f"/proc/{running.pid}/fd").glob("*"):
+                try:
+                    if "osm_mirror-scratch" in os.readlink(entry):
+                        held += os.stat(entry).st_size
+                except FileNotFoundError:
+                    pass
+            most = max(most, held)
+            time.sleep(0.02)
+    return most
+
+
 def main():
     runs, extract = int(sys.argv[1]), Path(sys.argv[2])
     pack, database = extract.with_suffix(".pack"), database_of(extract)
     with extract.open("rb") as lines:
         objects = sum(1 for _ in lines)
-    # The bench's own file, which `pack` replaces in each run.
+    # (the bench's own file, which `pack` replaces in each run; it is built in the memory that `pack` takes by itself, and in
+    # a tenth of what the text has)
     publish, write = [PROGRAM, "publish", extract], [PROGRAM, "pack", extract, pack]
     root = subprocess.run(write, check=True, capture_output=True, text=True).stdout.strip()
-    measure(objects, runs, "/dev/null", ("pack", write), ("publish", publish))
+    tenth = [*write, "--memory", os.path.getsize(extract) // 10]
+    measure(objects, runs, "/dev/null", ("pack", write), ("pack in a tenth", tenth), ("publish", publish))
+    for name, words in [("pack", write), ("pack in a tenth", tenth)]:
+        scratch = scratch_of(list(map(str, words)))
+        print(f"{name}: temporary files of {scratch / 1e6:.1f} MB, {scratch / os.path.getsize(extract):.2f} times the OPL")
     sizes = {"OPL": extract, "pack": pack, "SQLite": database}
     print("; ".join(f"{name} {os.path.getsize(path) / 1e6:.1f} MB" for name, path in sizes.items()))
     for name, question in QUESTIONS:

@@ -2,7 +2,7 @@
 -- Source: this project.
 use Rattle.std.specs.Prelude.{⊤}
 use Rattle.command_line.specs.declared.job.Job.{Job}
-use Rattle.command_line.specs.declared.job.Job.TheVariants.{Prove, Check, Fetch, Query, Serve, Relay}
+use Rattle.command_line.specs.declared.job.Job.TheVariants.{Prove, Check, Fetch, Pack, Query, Serve, Relay}
 
 abbrev pub IsProve : Job → Type 0
 IsProve (Prove file query answer proof edition) = ⊤
@@ -15,6 +15,10 @@ IsCheck job = ⊥
 abbrev pub IsFetch : Job → Type 0
 IsFetch (Fetch root mirror query form max_size max_work) = ⊤
 IsFetch job = ⊥
+
+abbrev pub IsPack : Job → Type 0
+IsPack (Pack file pack_file memory temp edition) = ⊤
+IsPack job = ⊥
 
 abbrev pub IsQuery : Job → Type 0
 IsQuery (Query root place query form max_bytes max_work) = ⊤

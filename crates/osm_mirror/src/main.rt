@@ -18,7 +18,7 @@ mod serving;
 use crate::changing::change_file;
 use crate::checking::start_check;
 use crate::fetching::start_fetch;
-use crate::packing::pack_file;
+use crate::packing::start_pack;
 use crate::proving::start_prove;
 use crate::querying::start_query;
 use crate::relaying::start_relay;
@@ -72,11 +72,7 @@ fn run_job(rt: &HostRuntime, job: Job) -> Status {
         Job::Prove { .. } => start_prove(rt, job),
         Job::Check { .. } => start_check(rt, job),
         Job::Fetch { .. } => start_fetch(rt, job),
-        Job::Pack {
-            file,
-            pack_file: place,
-            edition,
-        } => pack_file(rt, &file, &place, edition),
+        Job::Pack { .. } => start_pack(rt, job),
         Job::Query { .. } => start_query(rt, job),
         Job::Serve { .. } => start_serve(rt, job),
         Job::Relay { .. } => start_relay(rt, job),

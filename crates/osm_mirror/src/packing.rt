@@ -1,38 +1,107 @@
 //! The command `pack`.
 
-use osm_commands::Status;
+ghost use Rattle.osm_mirror.specs.Jobs.{IsPack};
+
+use command_line::Job;
+use osm_commands::{CommandFault, Status};
 use osm_keys::Edition;
-use osm_packs::pack;
+use osm_packs::pack_within;
+use scratch_files::ScratchFolder;
+use std::fs;
+use std::path::Path;
 use system_files::{
     Building, CleanOutput, OutputFile, Subject, are_one_file, refuse_one_file, report, trouble_of,
     watched_file,
 };
 
-/// Writes the pack of the set of a file, and tells the root. The pack may not take the place of the set: that is refused before
-/// anything is read.
-pub(crate) fn pack_file(rt: &HostRuntime, file: &str, place: &str, edition: Edition) -> Status {
+/// Starts `pack`, as its job says.
+pub(crate) fn start_pack(rt: &HostRuntime, job: Job) -> Status
+    requires { IsPack job }
+{
+    let Job::Pack {
+        file,
+        pack_file: place,
+        memory,
+        temp,
+        edition,
+    } = job
+    else {
+        unreachable!("the job is to pack")
+    };
+    let folder = match &temp {
+        // (as for a path, which an empty name leaves as it is)
+        Some(folder) if folder.as_str().is_empty() => ".",
+        Some(folder) => folder.as_str(),
+        None => folder_of(rt, &place),
+    };
+    let scratch = ScratchFolder::new(rt, folder);
+    pack_file(rt, &file, &place, scratch, memory, edition)
+}
+
+/// The folder of a file that is written; the one where the program runs, where something else has this name, as a pipe.
+fn folder_of<'a>(rt: &HostRuntime, place: &'a str) -> &'a str {
+    if let Ok(found) = fs::metadata(rt, place)
+        && !found.is_file()
+    {
+        return ".";
+    }
+    match Path::new(place).parent() {
+        Some(folder) if !folder.as_str().is_empty() => folder.as_str(),
+        _ => ".",
+    }
+}
+
+/// Writes the pack of the set of a file, and tells the root. So many bytes of the set are held in memory, and the others in
+/// files of a folder. The pack may not take the place of the set: that is refused before anything is read.
+fn pack_file(
+    rt: &HostRuntime,
+    file: &str,
+    place: &str,
+    scratch: ScratchFolder<'_>,
+    memory: u64,
+    edition: Edition,
+) -> Status {
     if are_one_file(rt, place, file) {
         return refuse_one_file(rt, place, file);
     }
-    pack_into(rt, file, &mut OutputFile::new(rt, place), edition)
+    let place = &mut OutputFile::new(rt, place);
+    pack_into(rt, file, place, scratch, memory, edition)
 }
 
 /// As `pack_file`, once the files are known to be different ones.
-fn pack_into(rt: &HostRuntime, file: &str, place: &mut OutputFile<'_>, edition: Edition) -> Status {
+fn pack_into(
+    rt: &HostRuntime,
+    file: &str,
+    place: &mut OutputFile<'_>,
+    scratch: ScratchFolder<'_>,
+    memory: u64,
+    edition: Edition,
+) -> Status {
     let mut input = watched_file(rt, file);
     let mut building = Building::new(rt);
-    let outcome = pack(
+    let outcome = pack_within(
         rt.alloc(),
         &mut input,
         edition,
         &mut building,
+        scratch,
+        [scratch; 4],
+        usize::try_from(memory).unwrap_or(usize::MAX),
         place,
         &mut CleanOutput::new(rt),
     );
     input.clear();
     building.clear();
     place.discard();
-    let troubles = &[trouble_of(file, input.error()), place.trouble()];
+    let scratch_error = match outcome {
+        Err(CommandFault::Device) => scratch.error(),
+        _ => None,
+    };
+    let troubles = &[
+        trouble_of(file, input.error()),
+        place.trouble(),
+        trouble_of(scratch.path(), scratch_error),
+    ];
     let subject = &Subject {
         front: input.front(),
         query: &[],

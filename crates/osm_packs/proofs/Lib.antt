@@ -1,3 +1,4 @@
+mod BuiltLemmas
 mod PackLemmas
 mod PublishedNodes
 mod QueryLemmas

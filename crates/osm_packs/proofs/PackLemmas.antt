@@ -21,7 +21,8 @@ use Rattle.osm_keys.specs.declared.edition.Edition.{Edition}
 use Rattle.osm_commands.specs.TreeRoots.{IsOutsideOrTrees, IsPublicationIn}
 use Rattle.osm_commands.specs.declared.command_fault.CommandFault.{CommandFault}
 use Rattle.osm_commands.specs.declared.command_fault.CommandFault.TheVariants as commands
-use Rattle.osm_packs.specs.Packing.{HasBytes, IsOutsideOrLong, IsPackOf, IsTooLong}
+use Rattle.pack_assembly.specs.Packing.{IsPackOf, IsTooLong}
+use Rattle.osm_packs.specs.Packing.{IsOutsideOrLong}
 use Rattle.osm_packs.specs.internal.Packing.{IsPackFault}
 use Rattle.osm_packs.proofs.PublishedNodes.{all_each, published_stands, under_published}
 

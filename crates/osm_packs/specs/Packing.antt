@@ -1,32 +1,14 @@
 -- What is packed, and why nothing is.
 -- Source: this project.
-use Rattle.std.specs.Prelude.{◌≡◌, ◌↔◌, ◌⊎◌, ℕ, List, Option}
-use Rattle.std.specs.Io.KnownBytes.{Keeps}
-use Rattle.std.specs.List.{Contains}
-use Rattle.byte_io.specs.Written.{AppendsFront}
+use Rattle.std.specs.Prelude.{◌≡◌, ◌⊎◌, ℕ, List, Option}
 use Rattle.osm_model.specs.Elements.{Element}
-use Rattle.osm_keys.specs.Publications.{IsNodeIn, Publication, root_of}
+use Rattle.osm_keys.specs.Publications.{Publication}
 use Rattle.osm_keys.specs.declared.edition.Edition.{Edition}
-use Rattle.node_pack.specs.Packs.{IsPack, Kept}
-use Rattle.node_pack.specs.Reached.{AreTooLong}
+use Rattle.pack_assembly.specs.Packing.{IsPackOf, IsTooLong}
 use Rattle.osm_commands.specs.TreeRoots.{ExplainsTrees, IsOutsideOrTrees, IsPublicationIn, publication_line}
-use Rattle.osm_commands.specs.Written.{HasBegun, HasGained, IsUntouched, Output}
+use Rattle.osm_commands.specs.Written.{HasGained, Output}
 use Rattle.osm_commands.specs.declared.command_fault.CommandFault.{CommandFault}
 use Rattle.osm_commands.specs.declared.command_fault.CommandFault.TheVariants.{TooLarge}
-
--- one of the nodes has these bytes
-abbrev pub HasBytes : List Kept → List ℕ → Type 0
-HasBytes nodes bytes = (kept : Kept) × Contains nodes kept × (kept.bytes ≡ bytes)
-
--- the file is a pack of the publication's root, with just the nodes of the publication
-pub record IsPackOf (p : Publication) (file : List ℕ) : Type 0 where
-  pub nodes : List Kept
-  pub is_pack : IsPack file (root_of p) nodes
-  pub same : (bytes : List ℕ) → HasBytes nodes bytes ↔ IsNodeIn p bytes
-
--- the nodes of the publication are too long for a pack
-abbrev pub IsTooLong : Publication → Type 0
-IsTooLong p = AreTooLong (IsNodeIn p) (root_of p)
 
 -- the nodes of a publication in this edition of the set that the file holds are too long for a pack
 abbrev pub HasLongPack : (file : List ℕ) → Edition → Type 0

@@ -1,3 +1,4 @@
 -- Words that only private clauses cite: nothing that a reader of the promises must believe.
+pub mod Building
 pub mod Faults
 pub mod Packing

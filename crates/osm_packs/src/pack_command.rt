@@ -1,4 +1,4 @@
-//! The command `pack FILE PACK`.
+//! The command `pack FILE PACK` over a snapshot in memory.
 
 ghost use Rattle.std.specs.Prelude.{◌≡◌, ◌≢◌, ◌⊎◌, ℕ, IfErr, IfSome, List, OnErr, OnOk, true};
 ghost use Rattle.std.specs.Io.KnownBytes.{Appends, Keeps};
@@ -6,7 +6,8 @@ ghost use Rattle.osm_model.specs.Elements.{Element};
 ghost use Rattle.opl_codec.specs.Files.{HoldsSet};
 ghost use Rattle.osm_keys.specs.Publications.{Publication};
 ghost use Rattle.osm_index.specs.Snapshots.{HoldsPublication};
-ghost use Rattle.osm_packs.specs.Packing.{Explains, HasPacked, IsOutsideOrLong, IsPackOf};
+ghost use Rattle.pack_assembly.specs.Packing.{IsPackOf};
+ghost use Rattle.osm_packs.specs.Packing.{Explains, HasPacked, IsOutsideOrLong};
 ghost use Rattle.osm_packs.specs.internal.Packing.{IsPackFault};
 
 use node_pack::{WriteFault, write_pack};
@@ -20,7 +21,7 @@ use tree_node::Recorder;
 
 /// Reads the input as the OPL text of a set of objects, writes the pack of the set in this edition, puts it in its place, and
 /// then writes the set's root to the output as `publish` does. It takes the memory of `publish`, and some hundred bytes for each
-/// node.
+/// node. The program packs in bounded memory, by [`pack_within`](crate::pack_within), which writes the same.
 ///
 /// # Errors
 ///

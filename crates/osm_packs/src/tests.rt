@@ -3,5 +3,6 @@
 mod failing_pack;
 mod four_objects;
 mod packing;
+mod packing_within;
 mod placing_output;
 mod querying;

@@ -25,6 +25,19 @@ impl<'a> ScratchFolder<'a> {
         ScratchFolder { rt, path }
     }
 
+    /// The path of the folder.
+    pub fn path(&self) -> &'a str {
+        self.path
+    }
+
+    /// The system's number of the error for which no file can be made in the folder now; none where one can be.
+    pub fn error(&self) -> Option<i32> {
+        match self.make_file() {
+            Ok(_) => None,
+            Err(error) => error.raw_os_error(),
+        }
+    }
+
     /// A file for reading and writing that has no name any more.
     fn make_file(&self) -> io::Result<File> {
         for number in 0..NAME_LIMIT {

@@ -5,23 +5,26 @@ ghost use Rattle.std.specs.Prelude.{◌≡◌, true};
 use crate::in_words::Trouble;
 use osm_commands::{CommandFault, FlushingWriter, ReplacingWriter, flush_outcome};
 use std::fs::{File, OpenOptions};
-use std::io::{ErrorKind, Write};
+use std::io::{BufWriter, ErrorKind, Write};
 use std::marker::Model;
 use std::{fs, io};
 
 /// How many names are tried for the file beside a place.
 const NAME_LIMIT: u32 = 100;
 
+/// How many bytes are handed to the system at a time, at most: what is longer is handed on as it stands.
+const BUFFER_LEN: usize = 65_536;
+
 /// A file that is made when it is first written or flushed: so a refused command leaves the file that was there. It is made
 /// beside its place, as `NAME.0.part` (or with the next number that is free), and is renamed once it is whole and on the
 /// device. So a full disk, or a program that is killed, leaves the file that was there too. What is no regular file, as a
-/// link, a pipe or a terminal, is written as it stands. A file that can't be made is a writer that fails. Contracts see its
-/// path.
+/// link, a pipe or a terminal, is written as it stands. A file that can't be made is a writer that fails. Up to 64 KiB are
+/// held back until it is flushed. Contracts see its path.
 #[derive(Drop)]
 pub struct OutputFile<'a> {
     rt: &'a HostRuntime,
     path: &'a str,
-    file: Option<File>,
+    file: Option<BufWriter<File>>,
     /// The name that the file has until it is put in its place; none where it is there from the first.
     aside: Option<String>,
     /// The system's number of the last failure.
@@ -70,7 +73,9 @@ impl<'a> OutputFile<'a> {
     fn make(&mut self) -> io::Result<()> {
         if self.file.is_none() {
             let made = self.made();
-            self.file = Some(self.noted(made)?);
+            let file = self.noted(made)?;
+            let buffered = BufWriter::with_capacity(self.rt.alloc(), BUFFER_LEN, file)?;
+            self.file = Some(buffered);
         }
         Ok(())
     }
@@ -108,7 +113,7 @@ impl<'a> OutputFile<'a> {
     fn reach_device(&mut self) -> io::Result<()> {
         self.flush()?;
         let reached = match (&self.file, &self.aside) {
-            (Some(file), Some(_)) => file.sync_all(),
+            (Some(file), Some(_)) => file.get_ref().sync_all(),
             _ => Ok(()),
         };
         self.noted(reached)

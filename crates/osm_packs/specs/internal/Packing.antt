@@ -3,7 +3,7 @@ use Rattle.std.specs.Prelude.{⊤}
 use Rattle.osm_keys.specs.Publications.{Publication}
 use Rattle.osm_commands.specs.declared.command_fault.CommandFault.{CommandFault}
 use Rattle.osm_commands.specs.declared.command_fault.CommandFault.TheVariants.{Apply, Clash, Device, Endless, Memory, Opl, Query, TooLarge, TooMany, Work}
-use Rattle.osm_packs.specs.Packing.{IsTooLong}
+use Rattle.pack_assembly.specs.Packing.{IsTooLong}
 
 -- it is too long, or memory ran out, or the writer failed
 abbrev pub IsPackFault : Publication → CommandFault → Type 0

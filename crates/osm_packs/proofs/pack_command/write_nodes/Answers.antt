@@ -6,7 +6,7 @@ use Rattle.tree_node.specs.Recorders.{RecorderHolds}
 use Rattle.node_pack.specs.Packs.{pack}
 use Rattle.node_pack.specs.Reached.{ArePacked, AreTooLong, IsReason}
 use Rattle.node_pack.specs.declared.write_fault.WriteFault.TheVariants as faults
-use Rattle.osm_packs.specs.Packing.{IsPackOf}
+use Rattle.pack_assembly.specs.Packing.{IsPackOf}
 use Rattle.osm_packs.proofs.PackLemmas.{holds_nodes, never_malformed, never_missing, packs_all, reason_of, too_long}
 use Rattle.osm_packs.proofs.pack_command.write_nodes.Goals as goal
 
