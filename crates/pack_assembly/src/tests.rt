@@ -1,5 +1,8 @@
 //! The worked pack of docs/FORMATS.md, from levels in memory that may refuse each call in turn.
 
+ghost use Rattle.std.specs.Prelude.{◌≡◌, ◌≤◌, ◌<◌, ◌+◌, ◌++◌, ◌∷◌, [], IsOk, OnOk, drop, false, length, map, take, true};
+ghost use Rattle.external_sort.specs.Runs.{run_at};
+
 use crate::{AssemblyFault, BuiltTrees, write_pack_of_levels};
 use external_sort::{RunStore, Sorter, StoreFault};
 use osm_keys::Edition;
@@ -64,6 +67,79 @@ impl RunStore for NoStore {
 
     fn read(&mut self, _run: usize, _offset: u64, _into: &mut [u8]) -> Result<(), StoreFault> {
         Err(StoreFault)
+    }
+}
+
+/// Keeps runs in memory, and refuses each call after so many.
+#[derive(Drop)]
+struct Kept {
+    alloc: Global,
+    runs: Vec<Vec<u8>>,
+    hand: Vec<u8>,
+    calls: u64,
+}
+
+impl Kept {
+    fn new(alloc: Global, calls: u64) -> Kept
+        ensures runs { result.runs.items ≡ [] }
+        ensures hand { result.hand.items ≡ [] }
+    {
+        Kept {
+            alloc,
+            runs: Vec::new(alloc),
+            hand: Vec::new(alloc),
+            calls,
+        }
+    }
+}
+
+impl RunStore for Kept {
+    ghost runs = { λ kept. map (λ run. run.items) kept.runs.items };
+
+    ghost in_hand = { λ kept. kept.hand.items };
+
+    ghost may_refuse = { true };
+
+    ghost is_true = { true };
+
+    fn append(&mut self, bytes: &[u8]) -> Result<(), StoreFault> {
+        let Some(calls) = self.calls.checked_sub(1) else {
+            return Err(StoreFault);
+        };
+        self.calls = calls;
+        match self.hand.extend_from_slice(bytes) {
+            Ok(()) => Ok(()),
+            Err(_) => Err(StoreFault),
+        }
+    }
+
+    fn end_run(&mut self) -> Result<(), StoreFault> {
+        let Some(calls) = self.calls.checked_sub(1) else {
+            return Err(StoreFault);
+        };
+        self.calls = calls;
+        let run = std::mem::replace(&mut self.hand, Vec::new(self.alloc));
+        match self.runs.push(run) {
+            Ok(()) => Ok(()),
+            Err(_) => Err(StoreFault),
+        }
+    }
+
+    fn read(&mut self, run: usize, offset: u64, into: &mut [u8]) -> Result<(), StoreFault> {
+        let Some(calls) = self.calls.checked_sub(1) else {
+            return Err(StoreFault);
+        };
+        self.calls = calls;
+        if run >= self.runs.len() {
+            return Err(StoreFault);
+        }
+        let bytes = self.runs[run].as_slice();
+        let start = offset as usize;
+        if start > bytes.len() || into.len() > bytes.len() - start {
+            return Err(StoreFault);
+        }
+        into.copy_from_slice(&bytes[start..start + into.len()]);
+        Ok(())
     }
 }
 
@@ -187,8 +263,13 @@ fn digest_at(bytes: &[u8]) -> Digest {
     }
 }
 
-/// Writes the worked pack from levels that refuse each call after so many.
-fn written(alloc: Global, calls: u64, out: &mut Vec<u8>) -> Result<Digest, AssemblyFault> {
+/// Writes the worked pack from levels that refuse each call after so many, with this sorter for its digests.
+fn written_with<S: RunStore>(
+    alloc: Global,
+    calls: u64,
+    digests: Sorter<S>,
+    out: &mut Vec<u8>,
+) -> Result<Digest, AssemblyFault> {
     let trees = BuiltTrees {
         edition: Edition::One,
         tops: [
@@ -200,13 +281,13 @@ fn written(alloc: Global, calls: u64, out: &mut Vec<u8>) -> Result<Digest, Assem
         heights: [1, 2, 1, 1],
     };
     let mut levels = levels_of(alloc, calls)?;
-    write_pack_of_levels(
-        alloc,
-        &trees,
-        &mut levels,
-        Sorter::new(alloc, NoStore, 100_000),
-        out,
-    )
+    write_pack_of_levels(alloc, &trees, &mut levels, digests, out)
+}
+
+/// The same, where the digests fit in memory.
+fn written(alloc: Global, calls: u64, out: &mut Vec<u8>) -> Result<Digest, AssemblyFault> {
+    let digests = Sorter::new(alloc, NoStore, 100_000);
+    written_with(alloc, calls, digests, out)
 }
 
 #[test]
@@ -236,5 +317,27 @@ fn tells_each_refused_call(rt: HostRuntime) -> Result<(), Fail> {
         assert!(rt; PACK.starts_with(out.as_slice()), "{calls}");
         assert!(rt; out.is_empty() == (calls < 13), "{calls}");
     }
+    Ok(())
+}
+
+/// Whichever call the sorter's store refuses, with memory for one digest, the fault comes, and nothing is written.
+#[test]
+fn tells_each_refused_call_of_the_sorter(rt: HostRuntime) -> Result<(), Fail> {
+    let alloc = rt.alloc();
+    let mut done = false;
+    for calls in 0..60 {
+        let mut out = Vec::new(alloc);
+        let digests = Sorter::new(alloc, Kept::new(alloc, calls), 1);
+        match written_with(alloc, 30, digests, &mut out) {
+            Ok(_) => {
+                assert!(rt; out.as_slice() == PACK.as_slice());
+                done = true;
+            }
+            Err(fault) => assert!(rt;
+                !done && fault == AssemblyFault::Device && out.is_empty()
+            ),
+        }
+    }
+    assert!(rt; done);
     Ok(())
 }

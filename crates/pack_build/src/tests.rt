@@ -6,7 +6,7 @@ use opl_codec::{OplCause, read_set};
 use osm_index::{BuildProgress, Snapshot, Unwatched};
 use osm_keys::Edition;
 use scratch_files::ScratchFolder;
-use std::alloc::Global;
+use std::alloc::{AllocError, Global};
 use std::test::Fail;
 use tree_node::{Digest, Recorder, Tree};
 
@@ -17,9 +17,10 @@ n1 v4 dV c0 t i0 u Tname=a,highway=crossing x-180 y-90\n\
 w5 v2 dV c0 t i0 u Thighway=service Nn1,n2,n1\n\
 n7 v1 dV c0 t i0 u T x180 y90\n";
 
-/// The pack of the set as memory gives it, and its root.
-fn expected(alloc: Global, edition: Edition) -> Result<(Digest, Vec<u8>), Fail> {
-    let set = read_set(alloc, &mut &SET[..])?;
+/// The pack of the set of a text as memory gives it, and its root.
+fn expected(alloc: Global, text: &[u8], edition: Edition) -> Result<(Digest, Vec<u8>), Fail> {
+    let mut reader = text;
+    let set = read_set(alloc, &mut reader)?;
     let snapshot = Snapshot::build(alloc, set, edition)?;
     let mut shelf = Recorder::new(alloc, snapshot.stock());
     let mut pack = Vec::new(alloc);
@@ -35,7 +36,7 @@ fn writes_what_is_built_at_once(rt: HostRuntime) -> Result<(), Fail> {
         Edition::Two { sequence: 0 },
         Edition::Two { sequence: 71 },
     ] {
-        let (root, pack) = expected(alloc, edition)?;
+        let (root, pack) = expected(alloc, SET, edition)?;
         for memory in [0, 1_000, 1_000_000] {
             let mut built = Vec::new(alloc);
             let folder = ScratchFolder::new(&rt, ".");
@@ -53,6 +54,42 @@ fn writes_what_is_built_at_once(rt: HostRuntime) -> Result<(), Fail> {
             assert_eq!(rt; built, pack);
         }
     }
+    Ok(())
+}
+
+/// The text of so many nodes, less one, each with two tags.
+fn nodes_text(alloc: Global, count: u64) -> Result<Vec<u8>, AllocError> {
+    let mut text = Vec::new(alloc);
+    for number in 1..count {
+        let line = format!(in alloc; "n{number} v1 x1 y1 Tname={number},place={number}\n")?;
+        text.extend_from_slice(line.as_bytes())?;
+    }
+    Ok(text)
+}
+
+/// 4,200 tags are in more leaves than one node has children, so the tag tree has three levels. A thousandth of the
+/// bytes fits in memory at once.
+#[test]
+fn writes_trees_of_three_levels(rt: HostRuntime) -> Result<(), Fail> {
+    let alloc = rt.alloc();
+    let text = nodes_text(alloc, 2_101)?;
+    let edition = Edition::Two { sequence: 3 };
+    let (root, pack) = expected(alloc, &text, edition)?;
+    let mut built = Vec::new(alloc);
+    let mut reader = text.as_slice();
+    let folder = ScratchFolder::new(&rt, ".");
+    let told = build_pack(
+        alloc,
+        &mut reader,
+        edition,
+        &mut Unwatched,
+        folder,
+        [folder; 4],
+        20_000,
+        &mut built,
+    )?;
+    assert_eq!(rt; told, root);
+    assert_eq!(rt; built, pack);
     Ok(())
 }
 
