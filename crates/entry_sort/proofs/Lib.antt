@@ -10,3 +10,4 @@ pub mod ReadEndLemmas
 pub mod RepeatLemmas
 pub mod SetLemmas
 pub mod FinalLemmas
+mod RiseLemmas

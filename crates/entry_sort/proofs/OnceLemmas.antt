@@ -12,7 +12,7 @@ use Rattle.osm_index.specs.EntryLists.{IsKeyed}
 use Rattle.external_sort.specs.Records.{Entry, Rises}
 use Rattle.entry_sort.specs.internal.Once.{added, binding_of, bindings_of, is_new, key_after, once_from}
 
-less : (o : Ordering) → is_lt o ≡ true → o ≡ Less
+pub less : (o : Ordering) → is_lt o ≡ true → o ≡ Less
 less Less t = refl
 less Equal t = cc
 less Greater t = cc

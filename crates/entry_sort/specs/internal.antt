@@ -2,3 +2,4 @@
 pub mod Names
 pub mod Once
 pub mod Puts
+pub mod Rises

@@ -22,7 +22,7 @@ use std::io::Read;
 /// `memory` is in bytes: an eighth for the references of the objects, an eighth for the entries of each tree, and a
 /// sixteenth for objects that are read together; the rest is for their entries while they are handed over. What vectors
 /// reserve beyond may double it, and an object or an entry that is longer alone takes what it needs. Five stores are
-/// made, and each is written and read once.
+/// made, and each is written and read once; that of the references is read only where they don't rise.
 ///
 /// Refused with `Load` for the first line at fault, as `read_set` tells it, with `TooMany` where a tree has more than
 /// 2^29 entries, with `Memory` where memory is refused, and with `Device` where the maker, a store or the sink refuses.

@@ -16,6 +16,7 @@ mod name_sorter;
 mod object_len;
 mod read_lines;
 mod repeat_scan;
+mod rising;
 #[cfg(test)]
 mod tests;
 mod tree_entries;

@@ -6,6 +6,7 @@ ghost use Rattle.external_sort.specs.Sorting.{Gives, current};
 ghost use Rattle.entry_sort.specs.internal.Names.{HoldsNames, IsLeastRepeat, Named, line_in, name_record, named, scan, start, stepped};
 
 use crate::repeat_scan::RepeatScan;
+use crate::rising::Rising;
 use external_sort::{RunStore, SortFault, Sorted, Sorter};
 use osm_keys::reference_key;
 use osm_model::Ref;
@@ -15,6 +16,8 @@ use std::alloc::Global;
 #[derive(Drop)]
 pub(crate) struct NameSorter<S: RunStore> {
     sorter: Sorter<S>,
+    /// Where each reference is above the one before it, none is repeated.
+    rising: Rising,
 }
 
 impl<S: RunStore> NameSorter<S> {
@@ -26,6 +29,7 @@ impl<S: RunStore> NameSorter<S> {
     {
         NameSorter {
             sorter: Sorter::new(alloc, store, memory),
+            rising: Rising::new(alloc),
         }
     }
 
@@ -39,10 +43,12 @@ impl<S: RunStore> NameSorter<S> {
     {
         let key = reference_key(name);
         let value = line.to_be_bytes();
+        self.rising.take(&key)?;
         self.sorter.push(&key, &value)
     }
 
-    /// The first line that puts an object whose reference a line before it puts, if any does.
+    /// The first line that puts an object whose reference a line before it puts, if any does. Where the references rise, as
+    /// in extracts, none does, and no record is read back.
     pub(crate) fn first_repeat(self, alloc: Global) -> Result<Option<u64>, SortFault>
         ensures least { S.is_true ≡ true → IfOk result (λ found. (names : List Named) →
             HoldsNames S.runs S.in_hand self names → IsLeastRepeat (map name_record names) found) }
@@ -50,6 +56,9 @@ impl<S: RunStore> NameSorter<S> {
         ensures device { S.may_refuse ≡ false → S.is_true ≡ true → (names : List Named) →
             HoldsNames S.runs S.in_hand self names → result ≢ Err SortFault.Device }
     {
+        if self.rising.all_rise {
+            return Ok(None);
+        }
         let mut sorted = self.sorter.finish()?;
         scan_all(alloc, &mut sorted)
     }

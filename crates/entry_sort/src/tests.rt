@@ -419,6 +419,18 @@ fn sorts_a_file(rt: HostRuntime) {
     }
 }
 
+/// By hand, with memory for one reference: two are written as runs, an append and an end for each. They are read back
+/// where they don't rise alone.
+#[test]
+fn reads_no_rising_references_back(rt: HostRuntime) {
+    let rising = b"n1 x0 y0\nn2 x0 y0\nn3 x0 y0\n";
+    assert!(rt; sort_file(rt.alloc(), rising, 0, 4, 5).is_ok());
+    let falling = b"n3 x0 y0\nn2 x0 y0\nn1 x0 y0\n";
+    let refused = sort_file(rt.alloc(), falling, 0, 4, 5);
+    assert!(rt; matches!(refused, Err(EntryFault::Device)));
+    assert!(rt; sort_file(rt.alloc(), falling, 0, 4, 100).is_ok());
+}
+
 /// The first line at fault, by hand: repeats at first place, across chunks and within one, before and after a line that
 /// can't be read, and a line that deletes an object.
 #[test]

@@ -8,6 +8,7 @@ use Rattle.osm_keys.specs.Keys.{ref_key}
 use Rattle.external_sort.specs.Records.{Entry, entry}
 use Rattle.external_sort.specs.Sorting.{Holds}
 use Rattle.entry_sort.specs.internal.Once.{is_new}
+use Rattle.entry_sort.specs.internal.Rises.{followed_by, no_keys}
 use Rattle.entry_sort.specs.declared.name_sorter.NameSorter.{NameSorter}
 use Rattle.entry_sort.specs.declared.repeat_scan.RepeatScan.{RepeatScan}
 
@@ -26,9 +27,13 @@ key_of n = ref_key n.name
 abbrev pub name_record : Named → Entry
 name_record n = entry (key_of n) (to_be_bytes w64 n.line)
 
--- the sorter holds these
-abbrev pub HoldsNames : {S : Type 0} → (S → List (List ℕ)) → (S → List ℕ) → NameSorter S → List Named → Type 0
-HoldsNames runs in_hand sorter names = Holds runs in_hand sorter.sorter (map name_record names)
+abbrev pub keys_of : List Named → List (List ℕ)
+keys_of names = map key_of names
+
+-- the sorter holds these, and knows whether they rise
+pub record HoldsNames {S : Type 0} (runs : S → List (List ℕ)) (in_hand : S → List ℕ) (sorter : NameSorter S) (names : List Named) : Type 0 where
+  pub held : Holds runs in_hand sorter.sorter (map name_record names)
+  pub seen : sorter.rising ≡ followed_by no_keys (keys_of names)
 
 -- the line that a record's value is
 abbrev pub line_in : List ℕ → ℕ
