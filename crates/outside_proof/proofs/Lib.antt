@@ -1,0 +1,8 @@
+mod BudgetLemmas
+mod Evaluating
+mod FaultLemmas
+mod NodeCounts
+mod NodeLengths
+mod PartLengths
+mod Proving
+mod Refusals
