@@ -11,8 +11,13 @@ use Rattle.osm_prove.specs.Proofs.{FitsProof, listing, nodes_of}
 use Rattle.osm_prove.specs.Proved.{IsProofOf}
 use Rattle.osm_prove.proofs.shared.NeededNodes.{needed_in}
 use Rattle.osm_prove.proofs.shared.PartNodes.{among_parts, node_among, nodes_rise}
+use Rattle.outside_proof.specs.Listings.{ListsRising}
 use Rattle.outside_proof.proofs.NodeCounts.{few_nodes}
 use Rattle.outside_proof.proofs.NodeLengths.{short_nodes}
+
+-- parts by rising digest that fit a proof, listed
+pub rising_listed : (parts : List Part) (proof : List ℕ) → HaveRisingDigests parts → FitsProof (nodes_of parts) → proof ≡ listing (nodes_of parts) → ListsRising proof
+rising_listed parts proof rising fits listed = (nodes_of parts, record { fits = fits; spelled = listed }, nodes_rise parts rising)
 
 module _ (p : Publication) (statements : Statements) (brought : List ℕ → Type 0) (parts : List Part) (needed : SameNodes (IsNeeded p statements) brought) (held : SameNodes brought (HaveNode parts)) where
   -- the parts of what was brought have just the needed nodes

@@ -17,6 +17,7 @@ ghost use Rattle.ql_eval.specs.Work.{IsNodeOf, WorkOfQuery};
 ghost use Rattle.osm_prove.specs.Budgets.{IsWorkOf};
 ghost use Rattle.osm_prove.specs.Proved.{IsProofOf, IsProved};
 ghost use Rattle.outside_proof.specs.Budgets.{KeepsBudget};
+ghost use Rattle.outside_proof.specs.Listings.{ListsRising};
 ghost use Rattle.outside_proof.specs.Faults.{IsFromOutside, IsNamed, IsNoQuery};
 
 use crate::evaluation::{evaluate_over, refusal};
@@ -62,6 +63,8 @@ pub fn prove_from<'a, N: NodeSource + Drop>(
     // Whatever the root is of, it is given again, and it is the digest of a manifest where there is an answer.
     ensures rooted { IfOk result (λ proved. (proved.root.0 ≡ root.now.0)
         × ((found : Manifest) × (digest_word (manifest_bytes found) ≡ root.now.0))) }
+    // Whatever the root is of, the proof lists nodes by rising digest.
+    ensures listed { IfOk result (λ proved. ListsRising proved.proof.items) }
     // A query with a fault is refused with it, unless memory runs out,
     ensures refused { (fault : QlFault) → HasFault query.now fault
         → (result ≡ Err (OutsideFault.Query fault)) ⊎ (result ≡ Err OutsideFault.Memory) }
@@ -104,6 +107,7 @@ fn answer_with_proof<'a, N: NodeSource + Drop>(
         → ¬ Clash (IsNodeOf p) (λ _. ⊤)
         → IfOk result (λ both. Means p.objects (statements_of query.now) both.0.items
         × IsProofOf p (statements_of query.now) both.1.items) }
+    ensures listed { IfOk result (λ both. ListsRising both.1.items) }
     ensures rooted { OnOk result ((found : Manifest) × (digest_word (manifest_bytes found) ≡ root.now.0)) }
     ensures only { (p : Publication) → IsPublication p → root.now.0 ≡ root_of p
         → ¬ Clash (IsNodeOf p) (λ _. ⊤)

@@ -7,7 +7,7 @@ use Rattle.ql_syntax.specs.StatementViews.{statements_of}
 use Rattle.osm_prove.specs.Proofs.{FitsProof, listing, nodes_of}
 use Rattle.outside_proof.specs.Faults.{IsFromOutside}
 use Rattle.outside_proof.proofs.FaultLemmas.{from_outside}
-use Rattle.outside_proof.proofs.Proving.{needed_fit, proof_of}
+use Rattle.outside_proof.proofs.Proving.{needed_fit, proof_of, rising_listed}
 use Rattle.outside_proof.proofs.prover.answer_with_proof.Goals as goal
 
 pub returns-in-Err-clause-only : goal.returns-in-Err-clause-only
@@ -31,3 +31,9 @@ returns-clause-proved g c = λ p is root none.
           (subst (λ (ps : List Part). FitsProof (nodes_of ps)) c.deref.ensures.value c.in_ok-proof.ensures.fits)
           (c.in_ok-proof.ensures.listed ∙ ap (λ (ps : List Part). listing (nodes_of ps)) c.deref.ensures.value),
     )
+
+pub returns-clause-listed : goal.returns-clause-listed
+returns-clause-listed g c =
+    rising_listed c.in_ok-parts.parts.items c.in_ok-proof.proof.items c.in_ok-parts.ensures.rising
+    (subst (λ (ps : List Part). FitsProof (nodes_of ps)) c.deref.ensures.value c.in_ok-proof.ensures.fits)
+    (c.in_ok-proof.ensures.listed ∙ ap (λ (ps : List Part). listing (nodes_of ps)) c.deref.ensures.value)
