@@ -1,0 +1,276 @@
+//! Queries over four objects, proved and answered from sources of their nodes.
+
+use crate::sources::{Spoiling, Stored};
+use bumpalo::Bump;
+use node_pack::{PackSource, write_pack};
+use opl_codec::read_set;
+use osm_index::{Edition, Snapshot};
+use osm_prove::{Answered, Proved, prove, read_proof};
+use outside_answer::Limits;
+use outside_proof::{OutsideFault, answer_query_from, prove_from};
+use outside_shelf::{NodeSource, Refused};
+use ql_eval::{EvalFault, ManifestFault};
+use ql_syntax::{QlCause, QlFault};
+use std::alloc::Global;
+use std::process::Abort;
+use std::test::Fail;
+use tree_node::{Digest, digest_of};
+
+const SET: &str = "\
+n1 v1 dV c5 t2020-01-02T03:04:05Z i7 uAnn Thighway=crossing x13.4 y52.5\n\
+n2 x13.4000001 y52.5\n\
+w10 Thighway=primary,name=A%20%B Nn1,n2,n1\n\
+r100 Ttype=route Mw10@outer,n99@stop,r100@\n\
+";
+
+const QUERIES: [&str; 6] = [
+    "node(1);out;",
+    "node(99);out;",
+    "way(10);>;out ids;",
+    "nwr[highway];out ids;",
+    "node[highway][!name];out ids;",
+    "(node(1);way(10););out ids;",
+];
+
+const NO_LIMITS: Limits = Limits {
+    bytes: None,
+    work: None,
+};
+
+/// The snapshot of the set in an edition.
+fn snapshot(alloc: Global, edition: Edition) -> Result<Snapshot, Fail> {
+    let set = read_set(alloc, &mut SET.as_bytes())?;
+    Ok(Snapshot::build(alloc, set, edition)?)
+}
+
+/// A query, proved from a source.
+fn proved<N: NodeSource + Drop>(
+    alloc: Global,
+    source: N,
+    root: &Digest,
+    text: &str,
+    limits: Limits,
+) -> Result<Proved, OutsideFault> {
+    let arena = Bump::new(alloc);
+    prove_from(alloc, &arena, source, text.as_bytes(), root, limits)
+}
+
+/// A query, answered from a source.
+fn answered<N: NodeSource + Drop>(
+    alloc: Global,
+    source: N,
+    root: &Digest,
+    text: &str,
+    limits: Limits,
+) -> Result<Answered, OutsideFault> {
+    let arena = Bump::new(alloc);
+    answer_query_from(alloc, &arena, source, text.as_bytes(), root, limits)
+}
+
+/// From a pack of the snapshot come the proof and the answer that a mirror gives of the snapshot.
+fn proves_as_a_mirror_does(
+    rt: &(impl Abort + AllocGlobal),
+    edition: Edition,
+    text: &str,
+) -> Result<(), Fail> {
+    let alloc = rt.alloc();
+    let snapshot = snapshot(alloc, edition)?;
+    let root = snapshot.root();
+    let expected = prove(alloc, &snapshot, text.as_bytes())?;
+    let mut pack = Vec::new(alloc);
+    write_pack(alloc, &mut snapshot.stock().shelf(alloc), root, &mut pack)?;
+    let source = PackSource::open(alloc, pack.as_slice())?;
+    let given = proved(alloc, source, root, text, NO_LIMITS)?;
+    assert!(rt; given.root == *root, "{text}");
+    assert_eq!(rt;
+        given.answer.as_slice(),
+        expected.answer.as_slice(),
+        "{text}"
+    );
+    assert_eq!(rt; given.proof.as_slice(), expected.proof.as_slice(), "{text}");
+    let source = PackSource::open(alloc, pack.as_slice())?;
+    let given = answered(alloc, source, root, text, NO_LIMITS)?;
+    assert!(rt; given.root == *root, "{text}");
+    assert_eq!(rt;
+        given.answer.as_slice(),
+        expected.answer.as_slice(),
+        "{text}"
+    );
+    Ok(())
+}
+
+#[test]
+fn proves_from_packs(rt: HostRuntime) -> Result<(), Fail> {
+    for text in QUERIES {
+        proves_as_a_mirror_does(&rt, Edition::One, text)?;
+        proves_as_a_mirror_does(&rt, Edition::Two { sequence: 7 }, text)?;
+    }
+    Ok(())
+}
+
+/// How many of the first forty nodes the source has to give for a query: each of them spoiled is told by its reason.
+fn spoiled_nodes(
+    rt: &(impl Abort + AllocGlobal),
+    snapshot: &Snapshot,
+    text: &str,
+    how: Spoiling,
+    reason: Refused,
+) -> Result<u32, Fail> {
+    let alloc = rt.alloc();
+    let root = snapshot.root();
+    let mut spoiled = 0_u32;
+    for before in 0..40 {
+        let source = Stored::new(alloc, snapshot, Some((before, how)));
+        let proof = proved(alloc, source, root, text, NO_LIMITS);
+        let source = Stored::new(alloc, snapshot, Some((before, how)));
+        let answer = answered(alloc, source, root, text, NO_LIMITS);
+        assert!(rt; proof.is_err() == answer.is_err(), "{text}");
+        if let Err(fault) = proof {
+            assert!(rt; fault == OutsideFault::Source(reason), "{fault}");
+            spoiled = spoiled.saturating_add(1);
+        }
+        if let Err(fault) = answer {
+            assert!(rt; fault == OutsideFault::Source(reason), "{fault}");
+        }
+    }
+    Ok(spoiled)
+}
+
+/// Each node that a query needs is asked for once, so as many can be spoiled as its proof lists.
+#[test]
+fn tells_why_a_node_is_not_given(rt: HostRuntime) -> Result<(), Fail> {
+    let alloc = rt.alloc();
+    let snapshot = snapshot(alloc, Edition::Two { sequence: 7 })?;
+    for text in QUERIES {
+        let expected = prove(alloc, &snapshot, text.as_bytes())?;
+        let nodes = read_proof(alloc, &expected.proof)?.len();
+        for (how, reason) in [
+            (Spoiling::Lacks, Refused::Absent),
+            (Spoiling::Turns, Refused::Other),
+            (Spoiling::Fails, Refused::Device),
+        ] {
+            let spoiled = spoiled_nodes(&rt, &snapshot, text, how, reason)?;
+            assert_eq!(rt; spoiled as usize, nodes, "{text}");
+        }
+    }
+    Ok(())
+}
+
+/// The bytes of the nodes that a query needs are enough, and one less aren't. The work of this query is 733, by hand.
+#[test]
+fn keeps_the_limits(rt: HostRuntime) -> Result<(), Fail> {
+    let alloc = rt.alloc();
+    let snapshot = snapshot(alloc, Edition::Two { sequence: 7 })?;
+    let root = snapshot.root();
+    let text = QUERIES[0];
+    let expected = prove(alloc, &snapshot, text.as_bytes())?;
+    let mut bytes = 0_u64;
+    for part in &read_proof(alloc, &expected.proof)? {
+        bytes = bytes.saturating_add(part.bytes().len() as u64);
+    }
+    let fewer = Some(bytes.saturating_sub(1));
+    let too_many = Some(OutsideFault::Source(Refused::TooMany));
+    for (bytes, work, fault) in [
+        (Some(bytes), Some(733), None),
+        (fewer, None, too_many),
+        (None, Some(732), Some(OutsideFault::Work)),
+    ] {
+        let limits = Limits { bytes, work };
+        let source = Stored::new(alloc, &snapshot, None);
+        assert!(rt;
+            proved(alloc, source, root, text, limits).err() == fault,
+            "{limits:?}"
+        );
+        let source = Stored::new(alloc, &snapshot, None);
+        assert!(rt;
+            answered(alloc, source, root, text, limits).err() == fault,
+            "{limits:?}"
+        );
+    }
+    Ok(())
+}
+
+/// Has the same bytes for whatever is asked.
+#[derive(Drop)]
+struct Same(&'static [u8]);
+
+impl NodeSource for Same {
+    fn read_node(
+        &mut self,
+        _key: &Digest,
+        _at_most: usize,
+        into: &mut Vec<u8>,
+    ) -> Result<(), outside_shelf::SourceFault> {
+        into.extend_from_slice(self.0)?;
+        Ok(())
+    }
+
+    fn announce(&mut self, _top: &Digest, _lo: &[u8], _hi: &[u8]) {}
+}
+
+/// A query that doesn't read is told before the source is asked, and bytes that are no manifest are no publication's.
+#[test]
+fn tells_what_is_wrong(rt: HostRuntime) -> Result<(), Fail> {
+    let alloc = rt.alloc();
+    let root = digest_of(b"no manifest");
+    let query = OutsideFault::Query(QlFault {
+        cause: QlCause::UnexpectedWord,
+        byte: 0,
+    });
+    let malformed = OutsideFault::Evaluation(EvalFault::Manifest(ManifestFault::Malformed));
+    for (text, expected) in [("nothing", query), (QUERIES[0], malformed)] {
+        let source = Same(b"no manifest");
+        let told = proved(alloc, source, &root, text, NO_LIMITS).err();
+        assert!(rt; told == Some(expected), "{told:?}");
+        let source = Same(b"no manifest");
+        let told = answered(alloc, source, &root, text, NO_LIMITS).err();
+        assert!(rt; told == Some(expected), "{told:?}");
+    }
+    Ok(())
+}
+
+/// Run with each allocation refused in turn: the proof and the answer, or out of memory and then these.
+#[test]
+fn proves_within_memory(rt: HostRuntime) -> Result<(), Fail> {
+    let alloc = rt.alloc();
+    let snapshot = snapshot(alloc, Edition::Two { sequence: 7 })?;
+    let root = snapshot.root();
+    let text = "nwr[highway];out ids;";
+    let mut first = proved(
+        alloc,
+        Stored::new(alloc, &snapshot, None),
+        root,
+        text,
+        NO_LIMITS,
+    );
+    if let Err(fault) = first {
+        assert!(rt; fault == OutsideFault::Memory, "{fault}");
+        first = proved(
+            alloc,
+            Stored::new(alloc, &snapshot, None),
+            root,
+            text,
+            NO_LIMITS,
+        );
+    }
+    assert_eq!(rt; first?.answer.as_slice(), b"n1\nw10\n".as_slice());
+    let mut second = answered(
+        alloc,
+        Stored::new(alloc, &snapshot, None),
+        root,
+        text,
+        NO_LIMITS,
+    );
+    if let Err(fault) = second {
+        assert!(rt; fault == OutsideFault::Memory, "{fault}");
+        second = answered(
+            alloc,
+            Stored::new(alloc, &snapshot, None),
+            root,
+            text,
+            NO_LIMITS,
+        );
+    }
+    assert_eq!(rt; second?.answer.as_slice(), b"n1\nw10\n".as_slice());
+    Ok(())
+}
