@@ -57,22 +57,24 @@ fn writes_what_is_built_at_once(rt: HostRuntime) -> Result<(), Fail> {
     Ok(())
 }
 
-/// The text of so many nodes, less one, each with two tags.
+/// The text of so many nodes, less one, each with five tags.
 fn nodes_text(alloc: Global, count: u64) -> Result<Vec<u8>, AllocError> {
     let mut text = Vec::new(alloc);
     for number in 1..count {
-        let line = format!(in alloc; "n{number} v1 x1 y1 Tname={number},place={number}\n")?;
-        text.extend_from_slice(line.as_bytes())?;
+        let head = format!(in alloc; "n{number} v1 x1 y1 Ta={number},b={number}")?;
+        let rest = format!(in alloc; ",c={number},d={number},e={number}\n")?;
+        text.extend_from_slice(head.as_bytes())?;
+        text.extend_from_slice(rest.as_bytes())?;
     }
     Ok(text)
 }
 
-/// 4,200 tags are in more leaves than one node has children, so the tag tree has three levels. A thousandth of the
-/// bytes fits in memory at once.
+/// 4,100 tags are in more leaves than one node has children, so the tag tree has three levels. Few of the entries fit
+/// in memory at once.
 #[test]
 fn writes_trees_of_three_levels(rt: HostRuntime) -> Result<(), Fail> {
     let alloc = rt.alloc();
-    let text = nodes_text(alloc, 2_101)?;
+    let text = nodes_text(alloc, 821)?;
     let edition = Edition::Two { sequence: 3 };
     let (root, pack) = expected(alloc, &text, edition)?;
     let mut built = Vec::new(alloc);
