@@ -333,9 +333,7 @@ fn tells_each_refused_call_of_the_sorter(rt: HostRuntime) -> Result<(), Fail> {
                 assert!(rt; out.as_slice() == PACK.as_slice());
                 done = true;
             }
-            Err(fault) => assert!(rt;
-                !done && fault == AssemblyFault::Device && out.is_empty()
-            ),
+            Err(fault) => assert!(rt; !done && fault == AssemblyFault::Device && out.is_empty()),
         }
     }
     assert!(rt; done);
