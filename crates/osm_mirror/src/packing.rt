@@ -64,7 +64,7 @@ fn pack_file(
     if are_one_file(rt, place, file) {
         return refuse_one_file(rt, place, file);
     }
-    let place = &mut OutputFile::new(rt, place);
+    let place = &mut OutputFile::buffered(rt, place);
     pack_into(rt, file, place, scratch, memory, edition)
 }
 

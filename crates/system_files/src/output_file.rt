@@ -12,19 +12,21 @@ use std::{fs, io};
 /// How many names are tried for the file beside a place.
 const NAME_LIMIT: u32 = 100;
 
-/// How many bytes are handed to the system at a time, at most: what is longer is handed on as it stands.
+/// How many bytes a buffered file holds back, at most: what is longer is handed on as it stands.
 const BUFFER_LEN: usize = 65_536;
 
 /// A file that is made when it is first written or flushed: so a refused command leaves the file that was there. It is made
 /// beside its place, as `NAME.0.part` (or with the next number that is free), and is renamed once it is whole and on the
 /// device. So a full disk, or a program that is killed, leaves the file that was there too. What is no regular file, as a
-/// link, a pipe or a terminal, is written as it stands. A file that can't be made is a writer that fails. Up to 64 KiB are
-/// held back until it is flushed. Contracts see its path.
+/// link, a pipe or a terminal, is written as it stands. A file that can't be made is a writer that fails. Contracts see its
+/// path.
 #[derive(Drop)]
 pub struct OutputFile<'a> {
     rt: &'a HostRuntime,
     path: &'a str,
     file: Option<BufWriter<File>>,
+    /// How many bytes may be held back.
+    buffer_len: usize,
     /// The name that the file has until it is put in its place; none where it is there from the first.
     aside: Option<String>,
     /// The system's number of the last failure.
@@ -44,10 +46,25 @@ impl<'a> OutputFile<'a> {
     pub fn new(rt: &'a HostRuntime, path: &'a str) -> OutputFile<'a>
         ensures { result ≡ path.now }
     {
+        OutputFile::with_buffer(rt, path, 0)
+    }
+
+    /// The same for a text that comes in many small pieces: up to 64 KiB are held back until it is flushed. They take memory
+    /// when the file is made, and where that is refused the writer fails.
+    pub fn buffered(rt: &'a HostRuntime, path: &'a str) -> OutputFile<'a>
+        ensures { result ≡ path.now }
+    {
+        OutputFile::with_buffer(rt, path, BUFFER_LEN)
+    }
+
+    fn with_buffer(rt: &'a HostRuntime, path: &'a str, buffer_len: usize) -> OutputFile<'a>
+        ensures { result ≡ path.now }
+    {
         OutputFile {
             rt,
             path,
             file: None,
+            buffer_len,
             aside: None,
             error: None,
         }
@@ -74,7 +91,7 @@ impl<'a> OutputFile<'a> {
         if self.file.is_none() {
             let made = self.made();
             let file = self.noted(made)?;
-            let buffered = BufWriter::with_capacity(self.rt.alloc(), BUFFER_LEN, file)?;
+            let buffered = BufWriter::with_capacity(self.rt.alloc(), self.buffer_len, file)?;
             self.file = Some(buffered);
         }
         Ok(())
