@@ -9,13 +9,14 @@ use Rattle.ql_meaning.proofs.shared.Laws.{one_meaning}
 use Rattle.ql_syntax.specs.Statements.{Statements}
 use Rattle.ql_syntax.specs.declared.fault.QlFault.{QlFault}
 use Rattle.ql_syntax.proofs.shared.QueryLaws.{one_fault, one_query, reads_or_not}
-use Rattle.osm_gate.specs.Connections.{RespondsToOneWithin, RespondsWithin}
+use Rattle.osm_gate.specs.Connections.{RespondsToOneOn, RespondsOn}
 use Rattle.http_messages.specs.Forms.{query_of}
 use Rattle.http_messages.specs.Requests.{Asked, Request, asked, refused}
 use Rattle.http_messages.specs.ResponseTexts.{Response, response_text}
-use Rattle.osm_gate.specs.Responses.{ByMethodWithin, ByQueryWithin, ByRouteWithin, GivesAt, GivesWithin, IsResponseWithin, TellsFault, checked_body, ends, fault_text, ok_response, refusal}
+use Rattle.osm_gate.specs.Responses.{ByMethodOn, ByQueryOn, ByRouteOn, GivesAt, GivesWithin, IsResponseOn, TellsFault, checked_body, ends, fault_text, ok_response, refusal}
 use Rattle.http_messages.specs.Methods.{method_of}
 use Rattle.osm_gate.specs.Routes.{route_of}
+use Rattle.osm_gate.specs.Terms.{within}
 use Rattle.http_messages.specs.Targets.{path_of}
 use Rattle.osm_gate.specs.declared.endpoint.Endpoint.{Endpoint}
 use Rattle.osm_gate.specs.declared.endpoint.Endpoint.TheVariants.{Answer, AnswerWithProof}
@@ -68,7 +69,7 @@ module _ (most : Option ℕ) (p : Publication) (is : IsPublication p) where
   within_no_fault (Some budget) endpoint closes query r s (inr (statements, reads, much, same)) (fault, has, same_too) = reads_or_not query statements fault reads has
 
   one_by_query : (reply : Reply) (query : Option (List ℕ)) (r s : Response)
-      → ByQueryWithin most reply p query r → ByQueryWithin most reply p query s → r ≡ s
+      → ByQueryOn (within most) reply p query r → ByQueryOn (within most) reply p query s → r ≡ s
   one_by_query reply None r s first second = first ∙ sym second
   one_by_query reply (Some query) r s (inl (fault, has, same)) (inl (other, has_too, same_too)) =
       same ∙ ap (λ (f : QlFault). refusal reply.closes 400 (fault_text f)) (one_fault query fault other has has_too) ∙ sym same_too
@@ -77,28 +78,28 @@ module _ (most : Option ℕ) (p : Publication) (is : IsPublication p) where
   one_by_query reply (Some query) r s (inr first) (inr second) = one_within most reply.endpoint reply.closes query r s first second
 
   one_by_method : (reply : Reply) (a : Asked) (method : Method) (r s : Response)
-      → ByMethodWithin most reply p a method r → ByMethodWithin most reply p a method s → r ≡ s
+      → ByMethodOn (within most) reply p a method r → ByMethodOn (within most) reply p a method s → r ≡ s
   one_by_method reply a Get r s first second = one_by_query reply (query_of Target a) r s first second
   one_by_method reply a Post r s first second = one_by_query reply (query_of Body a) r s first second
   one_by_method reply a Other r s first second = first ∙ sym second
 
   one_by_route : (closes : Bool) (a : Asked) (route : Option Route) (r s : Response)
-      → ByRouteWithin most closes p a route r → ByRouteWithin most closes p a route s → r ≡ s
+      → ByRouteOn (within most) closes p a route r → ByRouteOn (within most) closes p a route s → r ≡ s
   one_by_route closes a None r s first second = first ∙ sym second
   one_by_route closes a (Some (Query endpoint)) r s first second =
       one_by_method (record { endpoint = endpoint; closes = closes }) a (method_of a.method) r s first second
   one_by_route closes a (Some Root) r s first second = first ∙ sym second
 
-  one_to_asked : (a : Asked) (r s : Response) → IsResponseWithin most p a r → IsResponseWithin most p a s → r ≡ s
-  unfolding IsResponseWithin
+  one_to_asked : (a : Asked) (r s : Response) → IsResponseOn (within most) p a r → IsResponseOn (within most) p a s → r ≡ s
+  unfolding IsResponseOn
   one_to_asked a r s first second = one_by_route (ends a) a (route_of (path_of a.target)) r s first second
 
-  one_to_request : (request : Request) (x y : List ℕ) → RespondsToOneWithin most p request x → RespondsToOneWithin most p request y → x ≡ y
+  one_to_request : (request : Request) (x y : List ℕ) → RespondsToOneOn (within most) p request x → RespondsToOneOn (within most) p request y → x ≡ y
   one_to_request (refused refusal) x y first second = first ∙ sym second
   one_to_request (asked a) x y (r, first, text) (s, second, other) =
       text ∙ ap response_text (one_to_asked a r s first second) ∙ sym other
 
-  pub one_response : (requests : List Request) (x y : List ℕ) → RespondsWithin most p requests x → RespondsWithin most p requests y → x ≡ y
+  pub one_response : (requests : List Request) (x y : List ℕ) → RespondsOn (within most) p requests x → RespondsOn (within most) p requests y → x ≡ y
   one_response [] x y first second = first ∙ sym second
   one_response (request ∷ requests) x y (a, b, one, more, whole) (c, d, one_too, more_too, whole_too) =
       whole ∙ (λ i. one_to_request request a c one one_too i ++ one_response requests b d more more_too i) ∙ sym whole_too

@@ -1,21 +1,21 @@
 -- Responses to some requests and then to others.
 use Rattle.std.proofs.Common.{◌≡◌, ◌∙◌, ℕ, List, [], ◌∷◌, ◌++◌, ap, sym, refl, append_assoc, append-nil}
-use Rattle.std.specs.Prelude.{Option}
 use Rattle.osm_keys.specs.Publications.{Publication}
-use Rattle.osm_gate.specs.Connections.{RespondsToOneWithin, RespondsWithin}
+use Rattle.osm_gate.specs.Connections.{RespondsToOneOn, RespondsOn}
 use Rattle.http_messages.specs.Requests.{Request}
+use Rattle.osm_gate.specs.Terms.{Terms}
 
-module _ (most : Option ℕ) (p : Publication) where
-  pub responds-append : (xs ys : List Request) (a b : List ℕ) → RespondsWithin most p xs a → RespondsWithin most p ys b → RespondsWithin most p (xs ++ ys) (a ++ b)
+module _ (terms : Terms) (p : Publication) where
+  pub responds-append : (xs ys : List Request) (a b : List ℕ) → RespondsOn terms p xs a → RespondsOn terms p ys b → RespondsOn terms p (xs ++ ys) (a ++ b)
   responds-append [] ys a b nothing later = rw nothing later
   responds-append (x ∷ xs) ys a b (first, rest, is, more, whole) later =
       (first, rest ++ b, is, responds-append xs ys rest b more later, ap (λ (t : List ℕ). t ++ b) whole ∙ append_assoc first rest b)
 
-  pub responds-one : (request : Request) (text : List ℕ) → RespondsToOneWithin most p request text → RespondsWithin most p (request ∷ []) text
+  pub responds-one : (request : Request) (text : List ℕ) → RespondsToOneOn terms p request text → RespondsOn terms p (request ∷ []) text
   responds-one request text is = (text, [], is, refl, sym (append-nil text))
 
-  pub responds-split : (xs ys : List Request) (text : List ℕ) → RespondsWithin most p (xs ++ ys) text
-      → (a : List ℕ) × (b : List ℕ) × RespondsWithin most p xs a × RespondsWithin most p ys b × (text ≡ a ++ b)
+  pub responds-split : (xs ys : List Request) (text : List ℕ) → RespondsOn terms p (xs ++ ys) text
+      → (a : List ℕ) × (b : List ℕ) × RespondsOn terms p xs a × RespondsOn terms p ys b × (text ≡ a ++ b)
   responds-split [] ys text responds = ([], text, refl, responds, refl)
   responds-split (x ∷ xs) ys text (first, later, is, more, whole) =
       let (a, b, one, two, parts) = responds-split xs ys later more in

@@ -3,13 +3,12 @@ use Rattle.std.proofs.Common.{◌≡◌, ◌∙◌, ◌<◌, ◌≤◌, ◌+◌,
 use Rattle.std.specs.Prelude.{Option, None, if◌then◌else◌, suc}
 use Rattle.std.proofs.lemmas.List.{length-drop, drop-drop}
 use Rattle.osm_keys.specs.Publications.{Publication}
-use Rattle.osm_index.specs.Snapshots.{HoldsPublication}
-use Rattle.osm_index.specs.declared.snapshot.Snapshot.{Snapshot}
-use Rattle.osm_gate.specs.Connections.{Requests, RespondsWithin, closed_rest, requests_in, open_rest, joined_requests}
+use Rattle.osm_gate.specs.Connections.{Requests, RespondsOn, closed_rest, requests_in, open_rest, joined_requests}
 use Rattle.http_messages.specs.HeadEnds.{begins_with_break, head_length, is_break, skip_breaks}
 use Rattle.http_messages.specs.Requests.{Request, first_request}
 use Rattle.http_messages.specs.declared.limits.TheConstants.{HEAD_LIMIT}
 use Rattle.osm_gate.specs.declared.requests.Step.TheVariants.{Ended, Next, Open}
+use Rattle.osm_gate.specs.Terms.{Terms}
 use Rattle.osm_gate.specs.internal.Kept.{IsOpen}
 use Rattle.osm_gate.specs.internal.Steps.{StepIs}
 use Rattle.http_messages.proofs.shared.BreakLemmas.{skip-none}
@@ -85,35 +84,35 @@ open-empty bytes is = rw is open-nothing
 -- ---- one step of the loop
 
 -- the responses so far are those to these requests, and the others are those of the rest
-abbrev pub SoFar : Option ℕ → Snapshot → List ℕ → List ℕ → List ℕ → Type 0
-SoFar most snapshot bytes rest text = (requests : List Request) × (requests_in bytes ≡ joined_requests requests (requests_in rest))
-    × ((p : Publication) → HoldsPublication snapshot p → RespondsWithin most p requests text)
+abbrev pub SoFar : Terms → (Publication → Type 0) → List ℕ → List ℕ → List ℕ → Type 0
+SoFar terms holds bytes rest text = (requests : List Request) × (requests_in bytes ≡ joined_requests requests (requests_in rest))
+    × ((p : Publication) → holds p → RespondsOn terms p requests text)
 
-module _ (most : Option ℕ) (snapshot : Snapshot) (bytes rest start old new : List ℕ) (starts : start ≡ skip_breaks rest) (so_far : SoFar most snapshot bytes rest old) where
-  pub step-open : (needed : ℕ) → StepIs most (Open needed) snapshot start old new
-      → ((p : Publication) → HoldsPublication snapshot p → RespondsWithin most p (requests_in bytes).complete new) × ((requests_in bytes).rest ≡ open_rest start)
+module _ (terms : Terms) (holds : Publication → Type 0) (bytes rest start old new : List ℕ) (starts : start ≡ skip_breaks rest) (so_far : SoFar terms holds bytes rest old) where
+  pub step-open : (needed : ℕ) → StepIs terms (Open needed) holds start old new
+      → ((p : Publication) → holds p → RespondsOn terms p (requests_in bytes).complete new) × ((requests_in bytes).rest ≡ open_rest start)
   step-open needed step =
       let (requests, said, responds) = so_far in
       let none = rw starts at step.0 in
       let whole = requests_in-stop bytes rest requests none said in
       let same : (requests_in bytes).complete ≡ requests = ap (λ (s : Requests). s.complete) whole in
-      (λ p holds. rw (same, step.2) (responds p holds), ap (λ (s : Requests). s.rest) whole ∙ ap open_rest (sym starts))
+      (λ p held. rw (same, step.2) (responds p held), ap (λ (s : Requests). s.rest) whole ∙ ap open_rest (sym starts))
 
-  pub step-ended : StepIs most Ended snapshot start old new
-      → ((p : Publication) → HoldsPublication snapshot p → RespondsWithin most p (requests_in bytes).complete new) × ((requests_in bytes).rest ≡ closed_rest)
+  pub step-ended : StepIs terms Ended holds start old new
+      → ((p : Publication) → holds p → RespondsOn terms p (requests_in bytes).complete new) × ((requests_in bytes).rest ≡ closed_rest)
   step-ended step =
       let (requests, said, responds) = so_far in
       let (d, first, ends, adds) = step in
       let is = rw starts at first in
       let whole = requests_in-last bytes rest requests d is ends said in
       let same : (requests_in bytes).complete ≡ requests ++ d.request ∷ [] = ap (λ (s : Requests). s.complete) whole in (
-        λ p holds. let (text, one, added) = adds p holds in
-            rw (same, added) (responds-append most p requests (d.request ∷ []) old text (responds p holds) one),
+        λ p held. let (text, one, added) = adds p held in
+            rw (same, added) (responds-append terms p requests (d.request ∷ []) old text (responds p held) one),
         ap (λ (s : Requests). s.rest) whole,
       )
 
-  pub step-next : (used : ℕ) → StepIs most (Next used) snapshot start old new
-      → (0 < used) × (used ≤ length start) × SoFar most snapshot bytes (drop used start) new
+  pub step-next : (used : ℕ) → StepIs terms (Next used) holds start old new
+      → (0 < used) × (used ≤ length start) × SoFar terms holds bytes (drop used start) new
   step-next used step =
       let (requests, said, responds) = so_far in
       let (d, first, stays, adds, same) = step in
@@ -125,7 +124,7 @@ module _ (most : Option ℕ) (snapshot : Snapshot) (bytes rest start old new : L
         (
           requests ++ d.request ∷ [],
           more ∙ (λ i. joined_requests (requests ++ d.request ∷ []) (requests_in (drop (same i) ((sym starts) i)))),
-          λ p holds. let (text, one, added) = adds p holds in
-              rw added (responds-append most p requests (d.request ∷ []) old text (responds p holds) one),
+          λ p held. let (text, one, added) = adds p held in
+              rw added (responds-append terms p requests (d.request ∷ []) old text (responds p held) one),
         ),
       )

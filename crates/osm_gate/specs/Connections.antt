@@ -6,7 +6,8 @@ use Rattle.osm_keys.specs.Publications.{Publication}
 use Rattle.http_messages.specs.HeadEnds.{skip_breaks}
 use Rattle.http_messages.specs.Requests.{Decided, Request, asked, first_request, refused}
 use Rattle.http_messages.specs.ResponseTexts.{Response, response_text}
-use Rattle.osm_gate.specs.Responses.{IsResponseWithin, ends, refused_response}
+use Rattle.osm_gate.specs.Responses.{IsResponseOn, ends, refused_response}
+use Rattle.osm_gate.specs.Terms.{Terms, within}
 
 -- what is left of a connection: whether it is closed, and the bytes after the last complete request
 pub record Rest : Type 0 where
@@ -58,17 +59,21 @@ requests_on false bytes = requests_in bytes
 abbrev pub requests_next : Rest → List ℕ → Requests
 requests_next rest piece = requests_on rest.is_closed (rest.bytes ++ piece)
 
--- the text is the response to this request, where there may be a budget for each query
-abbrev pub RespondsToOneWithin : Option ℕ → Publication → Request → List ℕ → Type 0
-RespondsToOneWithin most p (refused refusal) text = text ≡ response_text (refused_response refusal)
-RespondsToOneWithin most p (asked a) text = (r : Response) × IsResponseWithin most p a r × (text ≡ response_text r)
+-- the text is the response to this request, on these terms
+abbrev pub RespondsToOneOn : Terms → Publication → Request → List ℕ → Type 0
+RespondsToOneOn terms p (refused refusal) text = text ≡ response_text (refused_response refusal)
+RespondsToOneOn terms p (asked a) text = (r : Response) × IsResponseOn terms p a r × (text ≡ response_text r)
 
 -- the text is the responses to these requests, one after the other
+abbrev pub RespondsOn : Terms → Publication → List Request → List ℕ → Type 0
+RespondsOn terms p [] text = text ≡ []
+RespondsOn terms p (request ∷ requests) text =
+    (first : List ℕ) × (later : List ℕ) × RespondsToOneOn terms p request first
+    × RespondsOn terms p requests later × (text ≡ first ++ later)
+
+-- the same where nodes are held in memory, and there may be a budget for each query
 abbrev pub RespondsWithin : Option ℕ → Publication → List Request → List ℕ → Type 0
-RespondsWithin most p [] text = text ≡ []
-RespondsWithin most p (request ∷ requests) text =
-    (first : List ℕ) × (later : List ℕ) × RespondsToOneWithin most p request first
-    × RespondsWithin most p requests later × (text ≡ first ++ later)
+RespondsWithin most p requests text = RespondsOn (within most) p requests text
 
 -- the same without a budget
 abbrev pub Responds : Publication → List Request → List ℕ → Type 0

@@ -22,6 +22,7 @@ use Rattle.http_messages.specs.Requests.{Asked}
 use Rattle.http_messages.specs.ResponseTexts.{Response}
 use Rattle.http_messages.specs.Targets.{path_of}
 use Rattle.osm_gate.specs.Routes.{route_of}
+use Rattle.osm_gate.specs.Terms.{Terms, within}
 use Rattle.osm_gate.specs.declared.endpoint.Endpoint.{Endpoint}
 use Rattle.osm_gate.specs.declared.endpoint.Endpoint.TheVariants.{Answer, AnswerWithProof}
 use Rattle.http_messages.specs.declared.method.Method.{Method}
@@ -54,6 +55,10 @@ not_allowed_response closes methods = record {
 -- the refusal of a query whose work passes the budget
 abbrev pub too_much_response : Bool → Response
 too_much_response closes = refusal closes 503 (codes "too much work")
+
+-- the refusal of a query whose nodes can't be read from their device
+abbrev pub failed_response : Bool → Response
+failed_response closes = refusal closes 500 (codes "device")
 
 -- what was asked for, under this root
 abbrev pub ok_response : Bool → List ℕ → Bool → List ℕ → Response
@@ -100,17 +105,30 @@ GivesWithin (Some most) endpoint closes p query r =
     (GivesAt endpoint closes p query r × IsWithin (IsWorkOf (form_text Opl) p query) (Some most))
     ⊎ TellsTooMuch (Some most) closes p query r
 
-abbrev pub ByQueryWithin : Option ℕ → Reply → Publication → Option (List ℕ) → Response → Type 0
-ByQueryWithin most reply p None r = r ≡ refusal reply.closes 400 (codes "no data")
-ByQueryWithin most reply p (Some query) r =
-    TellsFault reply.closes query r ⊎ GivesWithin most reply.endpoint reply.closes p query r
+-- the response says that the device of the nodes failed, to a query that reads
+abbrev pub TellsFailure : Bool → List ℕ → Response → Type 0
+TellsFailure closes query r = (statements : Statements) × Reads query statements × (r ≡ failed_response closes)
+
+-- this is so, or, where a device may fail, the response says that it did
+abbrev pub OrFails : Bool → Bool → List ℕ → Response → Type 0 → Type 0
+OrFails false closes query r Given = Given
+OrFails true closes query r Given = Given ⊎ TellsFailure closes query r
+
+-- on these terms the response gives what was asked for, or says why it can't be given
+abbrev pub GivesOn : Terms → Endpoint → Bool → Publication → List ℕ → Response → Type 0
+GivesOn terms endpoint closes p query r = OrFails terms.may_fail closes query r (GivesWithin terms.most endpoint closes p query r)
+
+abbrev pub ByQueryOn : Terms → Reply → Publication → Option (List ℕ) → Response → Type 0
+ByQueryOn terms reply p None r = r ≡ refusal reply.closes 400 (codes "no data")
+ByQueryOn terms reply p (Some query) r =
+    TellsFault reply.closes query r ⊎ GivesOn terms reply.endpoint reply.closes p query r
 
 -- ---- methods and routes
 
-abbrev pub ByMethodWithin : Option ℕ → Reply → Publication → Asked → Method → Response → Type 0
-ByMethodWithin most reply p a Get r = ByQueryWithin most reply p (query_of Target a) r
-ByMethodWithin most reply p a Post r = ByQueryWithin most reply p (query_of Body a) r
-ByMethodWithin most reply p a Other r = r ≡ not_allowed_response reply.closes (codes "GET, POST")
+abbrev pub ByMethodOn : Terms → Reply → Publication → Asked → Method → Response → Type 0
+ByMethodOn terms reply p a Get r = ByQueryOn terms reply p (query_of Target a) r
+ByMethodOn terms reply p a Post r = ByQueryOn terms reply p (query_of Body a) r
+ByMethodOn terms reply p a Other r = r ≡ not_allowed_response reply.closes (codes "GET, POST")
 
 -- the root in hexadecimal digits
 abbrev pub root_by_method : Bool → List ℕ → Method → Response
@@ -118,19 +136,23 @@ root_by_method closes root Get = ok_response closes root false (encode_lower roo
 root_by_method closes root Post = not_allowed_response closes (codes "GET")
 root_by_method closes root Other = not_allowed_response closes (codes "GET")
 
-abbrev pub ByRouteWithin : Option ℕ → Bool → Publication → Asked → Option Route → Response → Type 0
-ByRouteWithin most closes p a None r = r ≡ refusal closes 404 (codes "not found")
-ByRouteWithin most closes p a (Some (Query endpoint)) r =
-    ByMethodWithin most (record { endpoint = endpoint; closes = closes }) p a (method_of a.method) r
-ByRouteWithin most closes p a (Some Root) r = r ≡ root_by_method closes (root_of p) (method_of a.method)
+abbrev pub ByRouteOn : Terms → Bool → Publication → Asked → Option Route → Response → Type 0
+ByRouteOn terms closes p a None r = r ≡ refusal closes 404 (codes "not found")
+ByRouteOn terms closes p a (Some (Query endpoint)) r =
+    ByMethodOn terms (record { endpoint = endpoint; closes = closes }) p a (method_of a.method) r
+ByRouteOn terms closes p a (Some Root) r = r ≡ root_by_method closes (root_of p) (method_of a.method)
 
 -- the connection ends after the response to this request
 abbrev pub ends : Asked → Bool
 ends a = a.closes || bytes_eq a.method (codes "HEAD")
 
--- the response to a complete request, where there may be a budget for each query
-unfoldable pub IsResponseWithin : Option ℕ → Publication → Asked → Response → Type 0
-IsResponseWithin most p a r = ByRouteWithin most (ends a) p a (route_of (path_of a.target)) r
+-- the response to a complete request, on these terms
+unfoldable pub IsResponseOn : Terms → Publication → Asked → Response → Type 0
+IsResponseOn terms p a r = ByRouteOn terms (ends a) p a (route_of (path_of a.target)) r
+
+-- the same where nodes are held in memory, and there may be a budget for each query,
+abbrev pub IsResponseWithin : Option ℕ → Publication → Asked → Response → Type 0
+IsResponseWithin most p a r = IsResponseOn (within most) p a r
 
 -- and where there is none
 abbrev pub IsResponse : Publication → Asked → Response → Type 0

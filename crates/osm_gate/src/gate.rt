@@ -3,11 +3,13 @@
 ghost use Rattle.std.specs.Prelude.{◌≡◌, ◌<◌, ◌≤◌, ℕ, IfOk, List, OnErr, [], drop, length};
 ghost use Rattle.osm_keys.specs.Publications.{Publication};
 ghost use Rattle.osm_index.specs.Snapshots.{HoldsPublication};
-ghost use Rattle.osm_gate.specs.Connections.{Responds, RespondsWithin, Rest, requests_next, open_rest};
+ghost use Rattle.osm_gate.specs.Connections.{Responds, RespondsOn, RespondsWithin, Rest, requests_next, open_rest};
 ghost use Rattle.osm_gate.specs.Pieces.{CompletesOne, IsWanted};
+ghost use Rattle.osm_gate.specs.Terms.{terms_of};
 ghost use Rattle.osm_gate.specs.internal.Kept.{IsKept, ends_in_break};
 
 use crate::chunks::Chunks;
+use crate::mirror::Mirror;
 use crate::requests::respond_as;
 use crate::response_bytes::ResponseBytes;
 use crate::route::{Route, routes};
@@ -103,7 +105,8 @@ impl Gate {
         // Out of memory the gate is as before: no part of the piece was taken.
         ensures unchanged { OnErr result (self.new ≡ self.old) }
     {
-        self.feed_as(piece, snapshot, None)
+        let mut mirror = snapshot;
+        self.feed_as(piece, &mut mirror, None)
     }
 
     /// Takes the next piece, as [`Gate::feed`] does, where each query has a budget, or none: one that passes it is
@@ -126,26 +129,30 @@ impl Gate {
         // Out of memory the gate is as before: no part of the piece was taken.
         ensures unchanged { OnErr result (self.new ≡ self.old) }
     {
-        self.feed_as(piece, snapshot, most)
+        let mut mirror = snapshot;
+        self.feed_as(piece, &mut mirror, most)
     }
 
-    /// Takes the next piece, as [`Gate::feed_within`] does, and gives the responses in this form: as chunks, or in one
-    /// vector. Refused only where memory runs out.
-    pub fn feed_as<R: ResponseBytes>(
+    /// Takes the next piece, as [`Gate::feed_within`] does, over any mirror, and gives the responses in this form: as
+    /// chunks, or in one vector. A query that reads may be answered with 500 `device` where the mirror's nodes are read from
+    /// one, and the connection goes on. Refused only where memory runs out.
+    pub fn feed_as<M: Mirror, R: ResponseBytes>(
         &mut self,
         piece: &[u8],
-        snapshot: &Snapshot,
+        mirror: &mut M,
         most: Option<u64>,
     ) -> Result<R, AllocError>
         // What is given responds to the requests of what was left and of this piece,
-        ensures responses { (p : Publication) → HoldsPublication snapshot.now p
-            → IfOk result (λ responses.
-            RespondsWithin most p (requests_next self.old piece.now).complete (R.bytes responses)) }
+        ensures responses { (p : Publication) → M.holds mirror.old p
+            → IfOk result (λ responses. RespondsOn (terms_of most M.may_fail) p
+            (requests_next self.old piece.now).complete (R.bytes responses)) }
         // and what is left of both is left.
         ensures rest { IfOk result (λ responses.
             self.new ≡ (requests_next self.old piece.now).rest) }
         // Out of memory the gate is as before: no part of the piece was taken.
         ensures unchanged { OnErr result (self.new ≡ self.old) }
+        // The mirror is the same.
+        ensures same { mirror.new ≡ mirror.old }
     {
         if self.is_closed {
             return Ok(R::none(self.alloc));
@@ -161,7 +168,7 @@ impl Gate {
         let (responses, left) = match respond_as(
             self.alloc,
             &self.router,
-            snapshot,
+            mirror,
             rest,
             scanned,
             most,

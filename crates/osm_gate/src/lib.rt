@@ -12,6 +12,8 @@ mod gate;
 mod gate_fault;
 mod laws;
 mod limits;
+mod mirror;
+mod mirror_fault;
 mod query_response;
 mod reply;
 mod requests;
@@ -31,6 +33,8 @@ pub use laws::{
     limits_law, nothing_after_the_end, one_response, one_response_within, pieces_ask_the_same,
     pieces_complete_one, responses_stand_in_order, rests_are_short,
 };
+pub use mirror::Mirror;
+pub use mirror_fault::MirrorFault;
 pub use response_bytes::ResponseBytes;
 pub use serving::{no_memory_response, send_out_of_memory, serve, serve_connection};
 pub use unsent::Unsent;

@@ -3,42 +3,44 @@
 ghost use Rattle.std.specs.Prelude.{◌≡◌, ◌++◌, IfOk, OnOk, Some, false, true};
 ghost use Rattle.std.specs.String.{string_bytes};
 ghost use Rattle.osm_keys.specs.Publications.{Publication};
-ghost use Rattle.osm_index.specs.Snapshots.{HoldsPublication};
 ghost use Rattle.http_messages.specs.ResponseTexts.{response_text};
-ghost use Rattle.osm_gate.specs.Responses.{ByQueryWithin, checked_body, fault_text, ok_response};
+ghost use Rattle.osm_gate.specs.Responses.{ByQueryOn, checked_body, fault_text, ok_response};
+ghost use Rattle.osm_gate.specs.Terms.{terms_of};
 ghost use Rattle.osm_gate.specs.internal.Adding.{AddsFault, AddsResponse};
 
 use crate::chunks::{Chunks, is_large};
 use crate::endpoint::Endpoint;
+use crate::mirror::Mirror;
+use crate::mirror_fault::MirrorFault;
 use crate::reply::Reply;
 use crate::response::{write_ok, write_ok_head, write_refusal};
 use http::StatusCode;
 use http_messages::total_len;
-use osm_index::Snapshot;
-use osm_prove::{Answered, ProveFault, Proved, answer_within, prove_within};
+use osm_prove::{Answered, Proved};
 use ql_syntax::QlFault;
 use std::alloc::{AllocError, Global};
 
-/// Appends the response to a query: what its endpoint gives, why the query doesn't read, or that it is too much work for
-/// the budget, where there is one. Out of memory it leaves what it wrote.
-pub(crate) fn respond_to_query(
+/// Appends the response to a query: what its endpoint gives, why the query doesn't read, that it is too much work for the
+/// budget, where there is one, or that the mirror's device failed. Out of memory it leaves what it wrote.
+pub(crate) fn respond_to_query<M: Mirror>(
     alloc: Global,
     output: &mut Chunks,
     reply: Reply,
-    snapshot: &Snapshot,
+    mirror: &mut M,
     query: &[u8],
     most: Option<u64>,
 ) -> Result<(), AllocError>
-    ensures { (p : Publication) → HoldsPublication snapshot.now p
-        → OnOk result (AddsResponse (ByQueryWithin most reply p (Some query.now))
+    ensures response { (p : Publication) → M.holds mirror.old p
+        → OnOk result (AddsResponse (ByQueryOn (terms_of most M.may_fail) reply p (Some query.now))
         output.old output.new) }
+    ensures same { mirror.new ≡ mirror.old }
 {
     match reply.endpoint {
-        Endpoint::Answer => match answer_within(alloc, snapshot, query, most) {
+        Endpoint::Answer => match mirror.answer_within(alloc, query, most) {
             Ok(answered) => write_answer(output, reply.closes, answered),
             Err(fault) => write_fault(alloc, output, reply.closes, fault),
         },
-        Endpoint::AnswerWithProof => match prove_within(alloc, snapshot, query, most) {
+        Endpoint::AnswerWithProof => match mirror.prove_within(alloc, query, most) {
             Ok(proved) => write_answer_with_proof(output, reply.closes, proved),
             Err(fault) => write_fault(alloc, output, reply.closes, fault),
         },
@@ -100,21 +102,25 @@ fn write_fault(
     alloc: Global,
     output: &mut Chunks,
     closes: bool,
-    fault: ProveFault,
+    fault: MirrorFault,
 ) -> Result<(), AllocError>
     ensures { OnOk result (AddsFault closes fault output.old output.new) }
 {
     match fault {
-        ProveFault::Query(fault) => {
+        MirrorFault::Query(fault) => {
             let text = fault_text(alloc, &fault)?;
             let status = StatusCode::BAD_REQUEST;
             write_refusal(output, closes, status, text.as_str())
         }
-        ProveFault::Work => {
+        MirrorFault::Work => {
             let status = StatusCode::SERVICE_UNAVAILABLE;
             write_refusal(output, closes, status, "too much work")
         }
-        ProveFault::Memory => Err(AllocError),
+        MirrorFault::Memory => Err(AllocError),
+        MirrorFault::Device => {
+            let status = StatusCode::INTERNAL_SERVER_ERROR;
+            write_refusal(output, closes, status, "device")
+        }
     }
 }
 

@@ -1,6 +1,7 @@
 use Rattle.std.proofs.Common.{◌∙◌, ap, refl, arith, length, []}
 use Rattle.http_messages.specs.HeadEnds.{begins_with_break, skip_breaks}
 use Rattle.osm_gate.specs.Connections.{open_rest}
+use Rattle.osm_gate.specs.Terms.{terms_of}
 use Rattle.osm_gate.specs.internal.Steps.{StepIs}
 use Rattle.osm_gate.specs.declared.requests.Step.TheVariants.{Open, Ended, Next}
 use Rattle.http_messages.proofs.shared.BreakLemmas.{skip-begins, skip-fits}
@@ -8,35 +9,35 @@ use Rattle.osm_gate.proofs.StepLemmas.{tail-skip, tail-drop, tail-place, tail-wh
 use Rattle.osm_gate.proofs.requests.respond_to_all.Goals as goal
 
 pub respond_to_first-requires-clause-begins : goal.respond_to_first-requires-clause-begins
-respond_to_first-requires-clause-begins c = ap begins_with_break c.without_breaks-start.ensures ∙ skip-begins c.loop-responses.rest.now
+respond_to_first-requires-clause-begins g c = ap begins_with_break c.without_breaks-start.ensures ∙ skip-begins c.loop-responses.rest.now
 
 pub overflow_sub-at : goal.overflow_sub-at
-overflow_sub-at c =
+overflow_sub-at g c =
     let tail = tail-skip c.loop-responses.rest.now c.args.bytes.now c.loop-responses.invariant.tail in
     let place = tail-place (skip_breaks c.loop-responses.rest.now) c.args.bytes.now tail in
     rw c.without_breaks-start.ensures place.0
 
 pub returns-in-Open-clause-responses : goal.returns-in-Open-clause-responses
-returns-in-Open-clause-responses c =
-    let step : StepIs c.args.most (Open c.in-Open.needed) c.args.snapshot.now c.without_breaks-start.result.now c.loop-responses.responses c.respond_to_first.new.responses =
+returns-in-Open-clause-responses g c =
+    let step : StepIs (terms_of c.args.most g.M.Mirror.may_fail) (Open c.in-Open.needed) (g.M.Mirror.holds c.args.mirror.now) c.without_breaks-start.result.now c.loop-responses.responses c.respond_to_first.new.responses =
     rw c.in-Open.is at c.in_ok-needed.ensures in
-    (step-open c.args.most c.args.snapshot.now c.args.bytes.now c.loop-responses.rest.now c.without_breaks-start.result.now
+    (step-open (terms_of c.args.most g.M.Mirror.may_fail) (g.M.Mirror.holds c.args.mirror.now) c.args.bytes.now c.loop-responses.rest.now c.without_breaks-start.result.now
     c.loop-responses.responses c.respond_to_first.new.responses c.without_breaks-start.ensures c.loop-responses.invariant.said c.in-Open.needed step).0
 
 pub returns-in-Open-clause-rest : goal.returns-in-Open-clause-rest
-returns-in-Open-clause-rest c =
-    let step : StepIs c.args.most (Open c.in-Open.needed) c.args.snapshot.now c.without_breaks-start.result.now c.loop-responses.responses c.respond_to_first.new.responses =
+returns-in-Open-clause-rest g c =
+    let step : StepIs (terms_of c.args.most g.M.Mirror.may_fail) (Open c.in-Open.needed) (g.M.Mirror.holds c.args.mirror.now) c.without_breaks-start.result.now c.loop-responses.responses c.respond_to_first.new.responses =
     rw c.in-Open.is at c.in_ok-needed.ensures in
     let tail = tail-skip c.loop-responses.rest.now c.args.bytes.now c.loop-responses.invariant.tail in
     let place = tail-place (skip_breaks c.loop-responses.rest.now) c.args.bytes.now tail in
     let start = rw (← c.without_breaks-start.ensures) at place.1 in
-    (step-open c.args.most c.args.snapshot.now c.args.bytes.now c.loop-responses.rest.now c.without_breaks-start.result.now
+    (step-open (terms_of c.args.most g.M.Mirror.may_fail) (g.M.Mirror.holds c.args.mirror.now) c.args.bytes.now c.loop-responses.rest.now c.without_breaks-start.result.now
     c.loop-responses.responses c.respond_to_first.new.responses c.without_breaks-start.ensures c.loop-responses.invariant.said c.in-Open.needed step).1
     ∙ ap open_rest start
 
 pub returns-in-Open-clause-open : goal.returns-in-Open-clause-open
-returns-in-Open-clause-open c =
-    let step : StepIs c.args.most (Open c.in-Open.needed) c.args.snapshot.now c.without_breaks-start.result.now c.loop-responses.responses c.respond_to_first.new.responses =
+returns-in-Open-clause-open g c =
+    let step : StepIs (terms_of c.args.most g.M.Mirror.may_fail) (Open c.in-Open.needed) (g.M.Mirror.holds c.args.mirror.now) c.without_breaks-start.result.now c.loop-responses.responses c.respond_to_first.new.responses =
     rw c.in-Open.is at c.in_ok-needed.ensures in
     let tail = tail-skip c.loop-responses.rest.now c.args.bytes.now c.loop-responses.invariant.tail in
     let place = tail-place (skip_breaks c.loop-responses.rest.now) c.args.bytes.now tail in
@@ -44,41 +45,41 @@ returns-in-Open-clause-open c =
     (omega arith, rw (← start) step.1)
 
 pub returns-in-Ended-clause-responses : goal.returns-in-Ended-clause-responses
-returns-in-Ended-clause-responses c =
-    let step : StepIs c.args.most Ended c.args.snapshot.now c.without_breaks-start.result.now c.loop-responses.responses c.respond_to_first.new.responses =
+returns-in-Ended-clause-responses g c =
+    let step : StepIs (terms_of c.args.most g.M.Mirror.may_fail) Ended (g.M.Mirror.holds c.args.mirror.now) c.without_breaks-start.result.now c.loop-responses.responses c.respond_to_first.new.responses =
     rw c.in-Ended.is at c.in_ok-needed.ensures in
-    (step-ended c.args.most c.args.snapshot.now c.args.bytes.now c.loop-responses.rest.now c.without_breaks-start.result.now
+    (step-ended (terms_of c.args.most g.M.Mirror.may_fail) (g.M.Mirror.holds c.args.mirror.now) c.args.bytes.now c.loop-responses.rest.now c.without_breaks-start.result.now
     c.loop-responses.responses c.respond_to_first.new.responses c.without_breaks-start.ensures c.loop-responses.invariant.said step).0
 
 pub returns-in-Ended-clause-rest : goal.returns-in-Ended-clause-rest
-returns-in-Ended-clause-rest c =
-    let step : StepIs c.args.most Ended c.args.snapshot.now c.without_breaks-start.result.now c.loop-responses.responses c.respond_to_first.new.responses =
+returns-in-Ended-clause-rest g c =
+    let step : StepIs (terms_of c.args.most g.M.Mirror.may_fail) Ended (g.M.Mirror.holds c.args.mirror.now) c.without_breaks-start.result.now c.loop-responses.responses c.respond_to_first.new.responses =
     rw c.in-Ended.is at c.in_ok-needed.ensures in
-    (step-ended c.args.most c.args.snapshot.now c.args.bytes.now c.loop-responses.rest.now c.without_breaks-start.result.now
+    (step-ended (terms_of c.args.most g.M.Mirror.may_fail) (g.M.Mirror.holds c.args.mirror.now) c.args.bytes.now c.loop-responses.rest.now c.without_breaks-start.result.now
     c.loop-responses.responses c.respond_to_first.new.responses c.without_breaks-start.ensures c.loop-responses.invariant.said step).1
 
 pub split_at-requires : goal.split_at-requires
-split_at-requires c =
-    let step : StepIs c.args.most (Next c.in-Next.used) c.args.snapshot.now c.without_breaks-start.result.now c.loop-responses.responses c.respond_to_first.new.responses =
+split_at-requires g c =
+    let step : StepIs (terms_of c.args.most g.M.Mirror.may_fail) (Next c.in-Next.used) (g.M.Mirror.holds c.args.mirror.now) c.without_breaks-start.result.now c.loop-responses.responses c.respond_to_first.new.responses =
     rw c.in-Next.is at c.in_ok-needed.ensures in
-    (step-next c.args.most c.args.snapshot.now c.args.bytes.now c.loop-responses.rest.now c.without_breaks-start.result.now
+    (step-next (terms_of c.args.most g.M.Mirror.may_fail) (g.M.Mirror.holds c.args.mirror.now) c.args.bytes.now c.loop-responses.rest.now c.without_breaks-start.result.now
     c.loop-responses.responses c.respond_to_first.new.responses c.without_breaks-start.ensures c.loop-responses.invariant.said c.in-Next.used step).1
 
 pub loop-responses-smaller : goal.loop-responses-smaller
-loop-responses-smaller c =
-    let step : StepIs c.args.most (Next c.in-Next.used) c.args.snapshot.now c.without_breaks-start.result.now c.loop-responses.responses c.respond_to_first.new.responses =
+loop-responses-smaller g c =
+    let step : StepIs (terms_of c.args.most g.M.Mirror.may_fail) (Next c.in-Next.used) (g.M.Mirror.holds c.args.mirror.now) c.without_breaks-start.result.now c.loop-responses.responses c.respond_to_first.new.responses =
     rw c.in-Next.is at c.in_ok-needed.ensures in
-    let next = step-next c.args.most c.args.snapshot.now c.args.bytes.now c.loop-responses.rest.now c.without_breaks-start.result.now
+    let next = step-next (terms_of c.args.most g.M.Mirror.may_fail) (g.M.Mirror.holds c.args.mirror.now) c.args.bytes.now c.loop-responses.rest.now c.without_breaks-start.result.now
     c.loop-responses.responses c.respond_to_first.new.responses c.without_breaks-start.ensures c.loop-responses.invariant.said c.in-Next.used step in
     let fits = skip-fits c.loop-responses.rest.now in
     let size = ap length c.without_breaks-start.ensures in
     omega (arith, next.0, next.1, fits, size, c.split_at.ensures.back_len)
 
 pub loop-responses-preserved : goal.loop-responses-preserved
-loop-responses-preserved c =
-    let step : StepIs c.args.most (Next c.in-Next.used) c.args.snapshot.now c.without_breaks-start.result.now c.loop-responses.responses c.respond_to_first.new.responses =
+loop-responses-preserved g c =
+    let step : StepIs (terms_of c.args.most g.M.Mirror.may_fail) (Next c.in-Next.used) (g.M.Mirror.holds c.args.mirror.now) c.without_breaks-start.result.now c.loop-responses.responses c.respond_to_first.new.responses =
     rw c.in-Next.is at c.in_ok-needed.ensures in
-    let next = step-next c.args.most c.args.snapshot.now c.args.bytes.now c.loop-responses.rest.now c.without_breaks-start.result.now
+    let next = step-next (terms_of c.args.most g.M.Mirror.may_fail) (g.M.Mirror.holds c.args.mirror.now) c.args.bytes.now c.loop-responses.rest.now c.without_breaks-start.result.now
     c.loop-responses.responses c.respond_to_first.new.responses c.without_breaks-start.ensures c.loop-responses.invariant.said c.in-Next.used step in
     let tail = tail-skip c.loop-responses.rest.now c.args.bytes.now c.loop-responses.invariant.tail in
     let start_tail = rw (← c.without_breaks-start.ensures) at tail in
@@ -89,4 +90,4 @@ loop-responses-preserved c =
     }
 
 pub loop-responses-init : goal.loop-responses-init
-loop-responses-init c = record { said = ([], refl, λ p holds. c.new-responses.ensures); scanned = c.requires.scanned; tail = tail-whole c.args.bytes.now }
+loop-responses-init g c = record { said = ([], refl, λ p holds. c.new-responses.ensures); scanned = c.requires.scanned; tail = tail-whole c.args.bytes.now; same = refl }

@@ -3,50 +3,51 @@ use Rattle.http_messages.specs.Requests.{Decided, asked, refused}
 use Rattle.http_messages.specs.ResponseTexts.{response_text}
 use Rattle.osm_gate.specs.Responses.{refused_response}
 use Rattle.http_messages.specs.Decisions.{asked_of}
+use Rattle.osm_gate.specs.Terms.{terms_of}
 use Rattle.osm_gate.proofs.RespondingLemmas.{responds-one}
 use Rattle.osm_gate.proofs.StepLemmas.{open-body, open-head}
 use Rattle.osm_gate.proofs.requests.respond_to_first.Goals as goal
 
 pub returns-then-branch : goal.returns-then-branch
-returns-then-branch c =
+returns-then-branch g c =
     let a = asked_of c.in-Complete.request in
     let d : Decided = record { request = asked a; used = c.in-Complete.used } in (
       d,
       sym c.in-Complete.ensures.decided,
       sym c.in_ok-respond-in-Complete.ensures.closes ∙ c.if-branch.true,
       λ p holds. let (r, is, added) = c.in_ok-respond-in-Complete.ensures.text p holds in
-          (response_text r, responds-one c.args.most p (asked a) (response_text r) (r, is, refl), added),
+          (response_text r, responds-one (terms_of c.args.most g.M.Mirror.may_fail) p (asked a) (response_text r) (r, is, refl), added),
     )
 
 pub returns-else-branch : goal.returns-else-branch
-returns-else-branch c =
+returns-else-branch g c =
     let a = asked_of c.in-Complete.request in
     let d : Decided = record { request = asked a; used = c.in-Complete.used } in (
       d,
       sym c.in-Complete.ensures.decided,
       sym c.in_ok-respond-in-Complete.ensures.closes ∙ c.if-branch.false,
       λ p holds. let (r, is, added) = c.in_ok-respond-in-Complete.ensures.text p holds in
-          (response_text r, responds-one c.args.most p (asked a) (response_text r) (r, is, refl), added),
+          (response_text r, responds-one (terms_of c.args.most g.M.Mirror.may_fail) p (asked a) (response_text r) (r, is, refl), added),
       refl,
     )
 
 pub returns-in-HeadOpen : goal.returns-in-HeadOpen
-returns-in-HeadOpen c =
+returns-in-HeadOpen g c =
     (sym c.in-HeadOpen.ensures.decided, open-head c.args.bytes.now c.requires.begins c.in-HeadOpen.ensures.open (sym c.in-HeadOpen.ensures.decided), refl)
 
 pub returns-in-BodyOpen : goal.returns-in-BodyOpen
-returns-in-BodyOpen c = (
+returns-in-BodyOpen g c = (
   sym c.in-BodyOpen.ensures.decided,
   open-body c.args.bytes.now c.in-BodyOpen.needed c.requires.begins c.in-BodyOpen.ensures.missing (sym c.in-BodyOpen.ensures.decided) c.in-BodyOpen.ensures.waits,
   refl,
 )
 
 pub returns-in_ok-refuse-in-Refused : goal.returns-in_ok-refuse-in-Refused
-returns-in_ok-refuse-in-Refused c =
+returns-in_ok-refuse-in-Refused g c =
     let d : Decided = record { request = refused c.in-Refused.refusal; used = c.in-Refused.used } in
     let text = response_text (refused_response c.in-Refused.refusal) in (
       d,
       sym c.in-Refused.ensures.decided,
       refl,
-      λ p holds. (text, responds-one c.args.most p (refused c.in-Refused.refusal) text refl, c.in_ok-refuse-in-Refused.ensures),
+      λ p holds. (text, responds-one (terms_of c.args.most g.M.Mirror.may_fail) p (refused c.in-Refused.refusal) text refl, c.in_ok-refuse-in-Refused.ensures),
     )
