@@ -1,5 +1,5 @@
 -- Responses whose heads and bodies were appended one after the other.
-use Rattle.std.proofs.Common.{◌≡◌, ◌∙◌, ◌++◌, ℕ, List, ap, append_assoc, append-nil, length, refl, sym}
+use Rattle.std.proofs.Common.{◌≡◌, ◌∙◌, ◌++◌, ℕ, List, ap, append_assoc, length, refl, sym}
 use Rattle.std.specs.Global.{Vec}
 use Rattle.http_messages.specs.ResponseTexts.{Response, response_text}
 use Rattle.osm_gate.specs.internal.ChunkLists.{whole}

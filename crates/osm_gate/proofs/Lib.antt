@@ -2,6 +2,7 @@ pub mod shared
 pub mod ChunkLemmas
 pub mod ConnectionLemmas
 pub mod FeedLemmas
+pub mod MirrorLemmas
 pub mod NoMemory
 pub mod OneRequest
 pub mod OneResponse

@@ -11,6 +11,7 @@ use Rattle.std.proofs.lemmas.List.Folds.{concat-append}
 use Rattle.std.proofs.Math.Seq.{take-append-add, take-append_seam}
 use Rattle.osm_keys.specs.Publications.{Publication}
 use Rattle.osm_gate.specs.Connections.{Requests, Responds, RespondsTo, Rest, requests_in, requests_next}
+use Rattle.osm_gate.specs.Terms.{within}
 use Rattle.osm_gate.specs.Serving.{AreRead, Exchange, HasBegun, HasBrokenOff, HasEnded, HasGivenUp, IsPiece, but_last, is_closed_by, longest_piece, most_reads}
 use Rattle.byte_io.specs.Written.{AppendsFront}
 use Rattle.osm_gate.specs.declared.gate_fault.GateFault.{GateFault}
@@ -105,7 +106,7 @@ pub responds-on : (p : Publication) (pieces : List (List ℕ)) (piece x y : List
     → RespondsTo p (concat pieces) x → Responds p (requests_next gate piece).complete y → RespondsTo p (concat (pieces ++ piece ∷ [])) (x ++ y)
 responds-on p pieces piece x y gate is one two =
     let front = concat pieces in
-    rw (concat-more pieces piece, asked_on front piece gate is) (responds-append None p (requests_in front).complete (requests_next gate piece).complete x y one two)
+    rw (concat-more pieces piece, asked_on front piece gate is) (responds-append (within None) p (requests_in front).complete (requests_next gate piece).complete x y one two)
 
 -- what was read before one piece more has its responses
 pub responds-before : (p : Publication) (pieces : List (List ℕ)) (piece x : List ℕ) → RespondsTo p (concat pieces) x

@@ -1,6 +1,6 @@
 -- What is left of the bytes, and what is known of it.
 use Rattle.std.proofs.Common.{◌≡◌, ◌∙◌, ◌<◌, ◌≤◌, ◌+◌, ◌-◌, ℕ, Bool, true, false, List, [], ◌∷◌, ◌++◌, ap, sym, refl, arith, length, drop, take}
-use Rattle.std.specs.Prelude.{Option, None, if◌then◌else◌, suc}
+use Rattle.std.specs.Prelude.{None, if◌then◌else◌, suc}
 use Rattle.std.proofs.lemmas.List.{length-drop, drop-drop}
 use Rattle.osm_keys.specs.Publications.{Publication}
 use Rattle.osm_gate.specs.Connections.{Requests, RespondsOn, closed_rest, requests_in, open_rest, joined_requests}

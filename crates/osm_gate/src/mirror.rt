@@ -9,8 +9,9 @@ ghost use Rattle.osm_prove.specs.Proved.{IsAnswer, IsProved};
 ghost use Rattle.ql_syntax.specs.Queries.{HasFault};
 ghost use Rattle.ql_syntax.specs.declared.fault.QlFault.{QlFault};
 ghost use Rattle.osm_gate.specs.Mirrors.{KeepsBudget};
+ghost use Rattle.osm_index.specs.Snapshots.{HoldsPublication};
 
-use crate::mirror_fault::MirrorFault;
+use crate::mirror_fault::{MirrorFault, fault_of};
 use osm_index::Snapshot;
 use osm_prove::{Answered, Proved, answer_within, prove_within};
 use std::alloc::Global;
@@ -103,7 +104,7 @@ impl Mirror for Snapshot {
         query: &[u8],
         most: Option<u64>,
     ) -> Result<Answered, MirrorFault> {
-        Ok(answer_within(alloc, self, query, most)?)
+        answer_in_memory(alloc, self, query, most)
     }
 
     fn prove_within(
@@ -112,7 +113,7 @@ impl Mirror for Snapshot {
         query: &[u8],
         most: Option<u64>,
     ) -> Result<Proved, MirrorFault> {
-        Ok(prove_within(alloc, self, query, most)?)
+        prove_in_memory(alloc, self, query, most)
     }
 }
 
@@ -134,7 +135,7 @@ impl Mirror for &Snapshot {
         query: &[u8],
         most: Option<u64>,
     ) -> Result<Answered, MirrorFault> {
-        Ok(answer_within(alloc, self, query, most)?)
+        answer_in_memory(alloc, self, query, most)
     }
 
     fn prove_within(
@@ -143,6 +144,54 @@ impl Mirror for &Snapshot {
         query: &[u8],
         most: Option<u64>,
     ) -> Result<Proved, MirrorFault> {
-        Ok(prove_within(alloc, self, query, most)?)
+        prove_in_memory(alloc, self, query, most)
+    }
+}
+
+/// The answer to a query over a snapshot, as [`Mirror::answer_within`] gives it.
+fn answer_in_memory(
+    alloc: Global,
+    snapshot: &Snapshot,
+    query: &[u8],
+    most: Option<u64>,
+) -> Result<Answered, MirrorFault>
+    ensures answered { (p : Publication) → HoldsPublication snapshot.now p
+        → IfOk result (λ answered. (answered.root.0 ≡ root_of p)
+        × IsAnswer p query.now answered.answer.items) }
+    ensures refused { (fault : QlFault) → HasFault query.now fault
+        → (result ≡ Err (MirrorFault.Query fault)) ⊎ (result ≡ Err MirrorFault.Memory) }
+    ensures told { (fault : QlFault) → result ≡ Err (MirrorFault.Query fault) → HasFault query.now fault }
+    ensures budget { (p : Publication) → HoldsPublication snapshot.now p
+        → KeepsBudget (IsWorkOf (form_text Opl) p query.now) most result }
+    ensures limited { most ≡ None → result ≢ Err MirrorFault.Work }
+    ensures failed { result ≢ Err MirrorFault.Device }
+{
+    match answer_within(alloc, snapshot, query, most) {
+        Ok(answered) => Ok(answered),
+        Err(fault) => Err(fault_of(fault)),
+    }
+}
+
+/// The answer to a query over a snapshot with its proof, as [`Mirror::prove_within`] gives them.
+fn prove_in_memory(
+    alloc: Global,
+    snapshot: &Snapshot,
+    query: &[u8],
+    most: Option<u64>,
+) -> Result<Proved, MirrorFault>
+    ensures proved { (p : Publication) → HoldsPublication snapshot.now p
+        → IfOk result (λ proved. (proved.root.0 ≡ root_of p)
+        × IsProved p query.now proved.answer.items proved.proof.items) }
+    ensures refused { (fault : QlFault) → HasFault query.now fault
+        → (result ≡ Err (MirrorFault.Query fault)) ⊎ (result ≡ Err MirrorFault.Memory) }
+    ensures told { (fault : QlFault) → result ≡ Err (MirrorFault.Query fault) → HasFault query.now fault }
+    ensures budget { (p : Publication) → HoldsPublication snapshot.now p
+        → KeepsBudget (IsWorkOf (form_text Opl) p query.now) most result }
+    ensures limited { most ≡ None → result ≢ Err MirrorFault.Work }
+    ensures failed { result ≢ Err MirrorFault.Device }
+{
+    match prove_within(alloc, snapshot, query, most) {
+        Ok(proved) => Ok(proved),
+        Err(fault) => Err(fault_of(fault)),
     }
 }

@@ -19,14 +19,13 @@ pub enum MirrorFault {
     Device,
 }
 
-impl From<ProveFault> for MirrorFault {
-    ghost from_gives = { λ refused fault. fault ≡ fault_of refused };
-
-    fn from(refused: ProveFault) -> MirrorFault {
-        match refused {
-            ProveFault::Query(fault) => MirrorFault::Query(fault),
-            ProveFault::Work => MirrorFault::Work,
-            ProveFault::Memory => MirrorFault::Memory,
-        }
+/// Why a set in memory has no answer.
+pub(crate) fn fault_of(refused: ProveFault) -> MirrorFault
+    ensures { result ≡ fault_of refused }
+{
+    match refused {
+        ProveFault::Query(fault) => MirrorFault::Query(fault),
+        ProveFault::Work => MirrorFault::Work,
+        ProveFault::Memory => MirrorFault::Memory,
     }
 }

@@ -88,15 +88,7 @@ fn respond_to_all<M: Mirror>(
     let mut scanned = scanned;
     loop {
         let start = without_breaks(rest);
-        match respond_to_first(
-            alloc,
-            &mut responses,
-            router,
-            mirror,
-            start,
-            scanned,
-            most,
-        )? {
+        match respond_to_first(alloc, &mut responses, router, mirror, start, scanned, most)? {
             Step::Open { needed } => {
                 let at = bytes.len() - start.len();
                 return Ok((responses, Some(Open { at, needed })));

@@ -4,7 +4,7 @@ use Rattle.std.specs.Prelude.{Option, Some, None}
 use Rattle.http_messages.specs.Forms.{query_of}
 use Rattle.http_messages.specs.Requests.{Asked}
 use Rattle.http_messages.specs.ResponseTexts.{Response}
-use Rattle.osm_gate.specs.Responses.{ByMethodOn, ByQueryOn, ByRouteOn, GivesAt, GivesOn, GivesWithin, IsResponseOn, OrFails, ends, root_by_method}
+use Rattle.osm_gate.specs.Responses.{ByMethodOn, ByQueryOn, ByRouteOn, GivesAt, GivesWithin, IsResponseOn, OrFails, ends, root_by_method}
 use Rattle.http_messages.specs.Methods.{method_of}
 use Rattle.osm_gate.specs.Routes.{route_of}
 use Rattle.osm_gate.specs.Terms.{Terms}

@@ -8,8 +8,8 @@ use Rattle.osm_gate.proofs.RespondingLemmas.{responds-one}
 use Rattle.osm_gate.proofs.StepLemmas.{open-body, open-head}
 use Rattle.osm_gate.proofs.requests.respond_to_first.Goals as goal
 
-pub returns-then-branch : goal.returns-then-branch
-returns-then-branch g c =
+pub returns-then-branch-clause-step : goal.returns-then-branch-clause-step
+returns-then-branch-clause-step g c =
     let a = asked_of c.in-Complete.request in
     let d : Decided = record { request = asked a; used = c.in-Complete.used } in (
       d,
@@ -19,8 +19,8 @@ returns-then-branch g c =
           (response_text r, responds-one (terms_of c.args.most g.M.Mirror.may_fail) p (asked a) (response_text r) (r, is, refl), added),
     )
 
-pub returns-else-branch : goal.returns-else-branch
-returns-else-branch g c =
+pub returns-else-branch-clause-step : goal.returns-else-branch-clause-step
+returns-else-branch-clause-step g c =
     let a = asked_of c.in-Complete.request in
     let d : Decided = record { request = asked a; used = c.in-Complete.used } in (
       d,
@@ -31,19 +31,19 @@ returns-else-branch g c =
       refl,
     )
 
-pub returns-in-HeadOpen : goal.returns-in-HeadOpen
-returns-in-HeadOpen g c =
+pub returns-in-HeadOpen-clause-step : goal.returns-in-HeadOpen-clause-step
+returns-in-HeadOpen-clause-step g c =
     (sym c.in-HeadOpen.ensures.decided, open-head c.args.bytes.now c.requires.begins c.in-HeadOpen.ensures.open (sym c.in-HeadOpen.ensures.decided), refl)
 
-pub returns-in-BodyOpen : goal.returns-in-BodyOpen
-returns-in-BodyOpen g c = (
+pub returns-in-BodyOpen-clause-step : goal.returns-in-BodyOpen-clause-step
+returns-in-BodyOpen-clause-step g c = (
   sym c.in-BodyOpen.ensures.decided,
   open-body c.args.bytes.now c.in-BodyOpen.needed c.requires.begins c.in-BodyOpen.ensures.missing (sym c.in-BodyOpen.ensures.decided) c.in-BodyOpen.ensures.waits,
   refl,
 )
 
-pub returns-in_ok-refuse-in-Refused : goal.returns-in_ok-refuse-in-Refused
-returns-in_ok-refuse-in-Refused g c =
+pub returns-in_ok-refuse-in-Refused-clause-step : goal.returns-in_ok-refuse-in-Refused-clause-step
+returns-in_ok-refuse-in-Refused-clause-step g c =
     let d : Decided = record { request = refused c.in-Refused.refusal; used = c.in-Refused.used } in
     let text = response_text (refused_response c.in-Refused.refusal) in (
       d,

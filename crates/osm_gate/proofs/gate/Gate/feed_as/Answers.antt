@@ -1,4 +1,4 @@
-use Rattle.std.proofs.Common.{rules, ◌≡◌, ◌∙◌, ap, sym, arith, [], ◌++◌, ◌<◌, length, inl, inr}
+use Rattle.std.proofs.Common.{rules, ◌≡◌, ◌∙◌, ap, sym, arith, ◌++◌, ◌<◌, length, inl, inr}
 use Rattle.std.specs.Prelude.{◌⊎◌}
 use Rattle.osm_gate.specs.Connections.{Requests, Rest, requests_next}
 use Rattle.osm_gate.proofs.FeedLemmas.{next-open, still-waits, waits-requests_in, scanned-before}
