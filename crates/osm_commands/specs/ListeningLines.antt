@@ -12,3 +12,8 @@ listening_text address count root =
     codes "osm_mirror listens on " ++ (socket_text address
     ++ (codes ", over " ++ (decimal count
     ++ (codes " objects, root " ++ digest_line root))))
+
+-- where it listens, and the root of the pack that it serves: how many objects that has isn't known before a query asks
+abbrev pub pack_listening_text : SocketAddr → (root : List ℕ) → List ℕ
+pack_listening_text address root =
+    codes "osm_mirror listens on " ++ (socket_text address ++ (codes ", over a pack, root " ++ digest_line root))

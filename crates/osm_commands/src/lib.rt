@@ -33,7 +33,7 @@ pub use check_command::check;
 pub use command_fault::CommandFault;
 pub use document_writer::write_document;
 pub use flushing_writer::{FlushingWriter, flush_outcome};
-pub use listening_lines::listening_line;
+pub use listening_lines::{listening_line, pack_listening_line};
 pub use prove_command::prove;
 pub use publish_command::publish;
 pub use query_reader::read_query;

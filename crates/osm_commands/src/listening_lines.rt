@@ -3,7 +3,7 @@
 ghost use Rattle.std.specs.Prelude.{◌≡◌, IfOk, length, string_bytes};
 ghost use Rattle.osm_keys.specs.Publications.{Publication, root_of};
 ghost use Rattle.osm_index.specs.Snapshots.{HoldsPublication};
-ghost use Rattle.osm_commands.specs.ListeningLines.{listening_text};
+ghost use Rattle.osm_commands.specs.ListeningLines.{listening_text, pack_listening_text};
 
 use osm_check::Digest;
 use osm_index::Snapshot;
@@ -22,6 +22,18 @@ pub fn listening_line(
 {
     let count = snapshot.object_count(alloc)?;
     line_over(alloc, address, count, snapshot.root())
+}
+
+/// Where the server listens, and the root of the pack that it serves, in one line that ends with LF.
+pub fn pack_listening_line(
+    alloc: Global,
+    address: SocketAddr,
+    root: &Digest,
+) -> Result<String, AllocError>
+    ensures { IfOk result (λ line. string_bytes line ≡ pack_listening_text address root.now.0) }
+{
+    let root = hex::encode(alloc, root.0)?;
+    format!(in alloc; "osm_mirror listens on {address}, over a pack, root {root}\n")
 }
 
 /// The line over this number of objects with this root.

@@ -8,6 +8,7 @@ mod change_folder;
 mod changing;
 mod checking;
 mod fetching;
+mod pack_serving;
 mod packing;
 mod proving;
 mod querying;

@@ -153,7 +153,7 @@ fn refuse_place(rt: &HostRuntime, place: &str, why: &str) -> Status {
 }
 
 /// How the program ends with this fault. It is told in one line, and then in words where somebody looks.
-fn tell(
+pub(crate) fn tell(
     rt: &HostRuntime,
     fault: NotAnswered,
     place: &str,

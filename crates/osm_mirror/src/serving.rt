@@ -5,14 +5,17 @@ ghost use Rattle.osm_mirror.specs.Faults.{fault_of_traffic};
 ghost use Rattle.osm_mirror.specs.Jobs.{IsServe};
 
 use crate::change_folder::ChangeFolder;
+use crate::pack_serving::serve_if_pack;
 use command_line::Job;
 use osm_commands::{CommandFault, Status, WholeLines, listening_line, read_snapshot};
-use osm_desk::Desk;
+use osm_desk::{Desk, Lookout};
+use osm_gate::Mirror;
 use osm_index::Snapshot;
 use osm_keys::Edition;
 use osm_serving::ChangeLookout;
 use osm_sockets::Sockets;
 use osm_traffic::{TrafficFault, serve_many};
+use std::alloc::AllocError;
 use std::io;
 use std::io::Write;
 use std::net::SocketAddr;
@@ -42,6 +45,9 @@ pub(crate) fn start_serve(rt: &HostRuntime, job: Job) -> Status
         unreachable!("the job is to serve")
     };
     let folder = changes.as_deref();
+    if let Some(status) = serve_if_pack(rt, &file, port, connections, max_work, folder) {
+        return status;
+    }
     serve_file(
         rt,
         &file,
@@ -115,14 +121,9 @@ fn serve_snapshot(
             } else {
                 ChangeLookout::new(rt.alloc(), folder)
             };
+            let line = listening_line(rt.alloc(), address, &snapshot);
             let outcome = serve_over(
-                rt,
-                snapshot,
-                sockets,
-                address,
-                connections,
-                max_work,
-                lookout,
+                rt, snapshot, line, sockets, connections, max_work, lookout,
             );
             report_served(rt, outcome)
         }
@@ -132,7 +133,11 @@ fn serve_snapshot(
 
 /// Sockets that listen on this port, and where that is. Where there are changes to look for, they are looked for four
 /// times a second.
-fn listen(rt: &HostRuntime, port: u16, has_changes: bool) -> io::Result<(Sockets<'_>, SocketAddr)> {
+pub(crate) fn listen(
+    rt: &HostRuntime,
+    port: u16,
+    has_changes: bool,
+) -> io::Result<(Sockets<'_>, SocketAddr)> {
     let looks = if has_changes {
         Some(Duration::from_millis(LOOK_MILLISECONDS))
     } else {
@@ -143,23 +148,23 @@ fn listen(rt: &HostRuntime, port: u16, has_changes: bool) -> io::Result<(Sockets
     Ok((sockets, address))
 }
 
-/// Serves a snapshot over sockets that listen at this address. At first it says where, and over what. A line that standard
-/// error can't take at once is dropped.
-fn serve_over(
+/// Serves a set, however it is held, over sockets that listen. At first it says this line, which tells where they listen and
+/// over what. A line that standard error can't take at once is dropped.
+pub(crate) fn serve_over<M: Mirror + Drop, L: Lookout<M>>(
     rt: &HostRuntime,
-    snapshot: Snapshot,
+    mirror: M,
+    line: Result<String, AllocError>,
     mut sockets: Sockets<'_>,
-    address: SocketAddr,
     connections: u32,
     max_work: Option<u64>,
-    mut lookout: ChangeLookout<ChangeFolder<'_>>,
+    mut lookout: L,
 ) -> Result<(), CommandFault> {
     let alloc = rt.alloc();
-    let line = listening_line(alloc, address, &snapshot)?;
+    let line = line?;
     let mut errors = WholeLines::new(ServerErrors::new(rt));
     // Where standard error takes nothing, it serves all the same.
     let _ = write!(errors, "{line}");
-    let mut desk = Desk::new(alloc, snapshot);
+    let mut desk = Desk::new(alloc, mirror);
     match serve_many(
         alloc,
         &mut desk,
@@ -188,7 +193,7 @@ fn fault_of_traffic(fault: TrafficFault) -> CommandFault
 }
 
 /// How the program ends after it has served. Its last line, too, is dropped where standard error can't take it at once.
-fn report_served(rt: &HostRuntime, outcome: Result<(), CommandFault>) -> Status {
+pub(crate) fn report_served(rt: &HostRuntime, outcome: Result<(), CommandFault>) -> Status {
     match outcome {
         Ok(()) => Status::Done,
         Err(fault) => {

@@ -12,6 +12,7 @@ mod input_file;
 mod one_file;
 mod output_file;
 mod progress;
+mod regular_file;
 mod server_errors;
 mod telling;
 mod watched;
@@ -23,6 +24,7 @@ pub use input_file::InputFile;
 pub use one_file::are_one_file;
 pub use output_file::OutputFile;
 pub use progress::Progress;
+pub use regular_file::is_regular_file;
 pub use server_errors::ServerErrors;
 pub use telling::{
     NOTHING, port_refused, quiet_file, refuse_one_file, report, trouble_of, watched_file,
