@@ -44,7 +44,11 @@ pub(crate) fn start_serve(rt: &HostRuntime, job: Job) -> Status
     else {
         unreachable!("the job is to serve")
     };
-    let folder = changes.as_deref();
+    // A unit for systemd can only leave a word empty.
+    let folder = match changes.as_deref() {
+        Some(folder) if !folder.is_empty() => Some(folder),
+        _ => None,
+    };
     if let Some(status) = serve_if_pack(rt, &file, port, connections, max_work, folder) {
         return status;
     }
