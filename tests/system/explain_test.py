@@ -11,21 +11,21 @@ from pathlib import Path
 
 from runs import PROGRAM, SECONDS, TOP, Outcome, Tally, run
 
-# A row of the index of codes: the code, and what it means.
-ROW = re.compile(r"^\| ([MOQNVIEPCGD]\d+) \| ([^|]*) \|")
+# A row of the index of codes: the code, or the line in place of one, and what it means.
+ROW = re.compile(r"^\| ([MOQNVIEPCGD]\d+|`[a-z ]+`) \| ([^|]*) \|")
 
 
 def index_of_codes():
     """The codes of docs/FORMATS.md, each with its meaning, in the order of the page."""
     text = (TOP / "docs/FORMATS.md").read_text(encoding="utf-8")
     index = text.split("## Index of codes", 1)[1].split("\n## ", 1)[0]
-    return [(row[1], row[2].strip()) for row in map(ROW.match, index.splitlines()) if row]
+    return [(row[1].strip("`"), row[2].strip().replace("`", "")) for row in map(ROW.match, index.splitlines()) if row]
 
 
 def explains_each_code(tally):
     """The program explains each code of the index, with the same meaning."""
     codes = index_of_codes()
-    tally.check("index is read", len(codes) > 70, len(codes))
+    tally.check("index is read", len(codes) > 77, len(codes))
     for code, meaning in codes:
         outcome = run([PROGRAM, "explain", code])
         lines = outcome.stdout.decode().splitlines()
@@ -38,10 +38,7 @@ def explains_each_code(tally):
 
 
 def explains_other_words(tally):
-    """Lines that stand in place of a code, letters of the other case, and what is no code."""
-    for words in ["bad root", "bad form", "bad edition", "no memory", "too large", "no work", "device"]:
-        outcome = run([PROGRAM, "explain", words])
-        tally.check(f"explain {words}", outcome.status == 0 and outcome.stdout.startswith(f"{words}: ".encode()), outcome)
+    """Letters of the other case, and what is no code."""
     tally.check("explain o9", run([PROGRAM, "explain", "o9"]) == run([PROGRAM, "explain", "O9"]))
     for words in ["O16", "", "Z1", "O9 "]:
         outcome = run([PROGRAM, "explain", words])

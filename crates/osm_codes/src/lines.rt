@@ -18,7 +18,7 @@ pub(crate) const LINES: [Explanation; 7] = [
     },
     Explanation {
         code: "bad edition",
-        meaning: "the edition is neither 1 nor 2, or it is 1 beside --changes",
+        meaning: "the word after --edition is neither 1 nor 2, or it is 1 together with --changes",
         place: "standard error, status 2",
         advice: "Leave --edition out, or give 2.",
     },

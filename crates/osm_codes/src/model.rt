@@ -7,7 +7,7 @@ pub(crate) const MODEL: [Explanation; 9] = [
     Explanation {
         code: "M1",
         meaning: "a number without any text",
-        place: "in a line of OPL it is O9, in a query Q10",
+        place: "in a line of OPL it is O9",
         advice: "Give the number, or leave the whole field out.",
     },
     Explanation {

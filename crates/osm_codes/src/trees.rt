@@ -1,8 +1,8 @@
-//! Codes: what is wrong with nodes of trees; never printed.
+//! Codes: what is wrong with nodes of trees. The program prints E1 to E4 alone, by `query`.
 
 use crate::explanation::Explanation;
 
-/// What is wrong with nodes of trees; never printed.
+/// What is wrong with nodes of trees. The program prints E1 to E4 alone, by `query`.
 pub(crate) const TREES: [Explanation; 17] = [
     Explanation {
         code: "N1",
@@ -73,26 +73,26 @@ pub(crate) const TREES: [Explanation; 17] = [
     Explanation {
         code: "E1",
         meaning: "a walk over a tree was refused",
-        place: "in a check it is C4, C5 or C6",
-        advice: "The proof lacks a node, or was made up.",
+        place: "nothing else, by query; in a check it is C4, C5 or C6",
+        advice: "Of query: the root isn't of an honestly built set. Of a check: the proof lacks a node, or was made up.",
     },
     Explanation {
         code: "E2",
         meaning: "an entry isn't of the form of its tree's entries",
-        place: "in a check it is C7",
+        place: "nothing else, by query; in a check it is C7",
         advice: "The root isn't of an honestly built set.",
     },
     Explanation {
         code: "E3",
         meaning: "an index names an object that isn't there",
-        place: "in a check it is C7",
+        place: "nothing else, by query; in a check it is C7",
         advice: "The root isn't of an honestly built set.",
     },
     Explanation {
         code: "E4",
         meaning: "the manifest is missing or malformed",
-        place: "in a check it is C4 or C5",
-        advice: "The proof isn't under this root.",
+        place: "nothing else, by query; in a check it is C4 or C5",
+        advice: "Of query: the root isn't that of a set. Of a check: the proof isn't under this root.",
     },
     Explanation {
         code: "P1",
