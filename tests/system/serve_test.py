@@ -230,26 +230,29 @@ def check_idle(tally):
         tally.check("an idle client is told", outcome == Outcome(b"", b"G1\n", 0), outcome)
 
 
-def check_allocations(tally):
-    """Each allocation refused in turn: before it listens it ends, after that one connection ends with the 503 at most."""
+def check_allocations(tally, edition):
+    """Each allocation refused in turn, in this edition: before it listens it ends, after that one connection ends with the 503
+    at most, which is told as G3."""
     request = b"POST /api/checked HTTP/1.1\r\nContent-Length: 16\r\n\r\n" + QUERY.encode()
-    with server(set_file(b"F"), "--connections", 1) as running:
+    words = ("--edition", edition, "--connections")
+    with server(set_file(b"F"), *words, 1) as running:
         whole = told(running, [request, request])
+    tally.check(f"edition {edition}: the root", root_of(b"F", edition.encode()).encode() in whole.lower(), whole[:300])
 
     def is_given_up(got):
         """Whether none or one of the two requests has its response, and then comes the 503."""
         begun = got.removesuffix(NO_MEMORY)
         return begun != got and whole.startswith(begun) and len(begun) in (0, len(whole) // 2)
 
-    met = 0
+    met = given_up = 0
     for number in count(1):
         with tempfile.TemporaryDirectory() as room:
             mark = Path(room) / "refused"
             refusing = {"REFUSE_ALLOCATION": number, "REFUSE_MARK": mark}
-            with server(set_file(b"F"), "--connections", 2, refusing=refusing) as running:
+            with server(set_file(b"F"), *words, 2, refusing=refusing) as running:
                 if running.port is None:
                     rest = running.ended()
-                    tally.check(f"allocation {number}", (running.line, rest) == (b"no memory\n", Outcome(b"", b"", 3)),
+                    tally.check(f"edition {edition}, allocation {number}", (running.line, rest) == (b"no memory\n", Outcome(b"", b"", 3)),
                                 running.line, rest)
                     continue
                 first = told(running, [request, request])
@@ -258,6 +261,7 @@ def check_allocations(tally):
             if not mark.exists():
                 break
             met += 1
+            given_up += rest.stderr == b"G3\n"
             both = (is_given_up(first), is_given_up(second))
             holds = (
                 (first, second, rest) == (whole, whole, Outcome(b"", b"", 0))
@@ -265,8 +269,8 @@ def check_allocations(tally):
                 or (first == whole and both[1] and rest == Outcome(b"", b"G3\n", 0))
                 or (first in (b"", whole) and second == b"" and rest == Outcome(b"", b"no memory\n", 3))
             )
-            tally.check(f"allocation {number}", holds, first[-200:], second[-200:], rest)
-    tally.check("allocations of requests were refused", met > 10, met)
+            tally.check(f"edition {edition}, allocation {number}", holds, first[-200:], second[-200:], rest)
+    tally.check(f"edition {edition}: allocations of requests were refused", met > 10 and given_up > 0, met, given_up)
 
 
 def check_opening(tally):
@@ -530,7 +534,8 @@ def main():
     check_curl(tally)
     check_load(tally)
     check_idle(tally)
-    check_allocations(tally)
+    for edition in ("1", "2"):
+        check_allocations(tally, edition)
     check_opening(tally)
     check_accepting(tally)
     check_devices(tally)

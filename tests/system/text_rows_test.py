@@ -116,6 +116,27 @@ def check_endless_lines(tally):
         tally.check(f"a line without end after {first}", ended == (Outcome(b"", told, 2), pieces * PIECE), ended)
 
 
+# Files whose first line has the most bytes that a line may have, or one more, its CR counted and its LF not: a comment, and
+# an object with spaces behind it. In the last two the line has no end.
+FIRST_LINES = [
+    (b"#" + (LONGEST - 1) * b"x" + b"\nn2 x1 y1\n", Outcome(b"n2\n", b"", 0)),
+    (b"#" + LONGEST * b"x" + b"\nn2 x1 y1\n", Outcome(b"", b"O12 line 1 byte 33554432\n", 2)),
+    (b"#" + (LONGEST - 2) * b"x" + b"\r\nn2 x1 y1\n", Outcome(b"n2\n", b"", 0)),
+    (b"#" + (LONGEST - 1) * b"x" + b"\r\nn2 x1 y1\n", Outcome(b"", b"O12 line 1 byte 33554432\n", 2)),
+    (b"n1 x1 y1".ljust(LONGEST) + b"\nn2 x1 y1\n", Outcome(b"n1\nn2\n", b"", 0)),
+    (b"n1 x1 y1".ljust(LONGEST + 1) + b"\nn2 x1 y1\n", Outcome(b"", b"O12 line 1 byte 33554432\n", 2)),
+    (b"n1 x1 y1".ljust(LONGEST), Outcome(b"n1\n", b"", 0)),
+    (b"n1 x1 y1".ljust(LONGEST + 1), Outcome(b"", b"O12 line 1 byte 33554432\n", 2)),
+]
+
+
+def check_longest_lines(tally):
+    for file, expected in FIRST_LINES:
+        outcome = asked(b"nwr;out ids;", file)
+        size = len(file.split(b"\n", 1)[0])
+        tally.check(f"a first line of {size} bytes: {file[:10]}..", outcome == expected, outcome)
+
+
 # Queries of which the first fault from the left is told, also if they are long or not UTF-8.
 FIRST_FAULTS = [
     (b"node;\xff", b"Q1 byte 5"),
@@ -168,6 +189,7 @@ def main():
             tally.check(f"{name} has rows", found != [])
         list(workers.map(lambda row: check_limit(tally, row), LIMITS))
     check_endless_lines(tally)
+    check_longest_lines(tally)
     for row in FIRST_FAULTS:
         check_refused_query(tally, row)
     check_lawful_query(tally, [65536 * b" "])
