@@ -2,7 +2,9 @@
 the function or constant that has it, and a text of the row that stands there. Here that is looked up, so that no row is
 lost when tests are rewritten; and the few rows that stand nowhere else are run.
 
-A row of a table (a .tsv file, or a page) is named with the test that reads the file. `-` is the whole file.
+A row of a table (a .tsv file, or a page) is named with the test that reads the file. `-` is the whole file. So that the
+text of a row can't be met by chance, it is a whole line of a .tsv file, and elsewhere at least eight characters that stand
+just once in the place that is named; how code is broken into lines makes no difference.
 """
 
 import re
@@ -10,7 +12,11 @@ import tempfile
 from pathlib import Path
 
 import trees
+from changes_test import folders, put
+from lines_rows_test import set_file
+from packs import canonical
 from runs import PROGRAM, TOP, Outcome, Tally, run
+from serve_test import server, told
 
 LISTED = TOP / "tests/rows/worked.tsv"
 
@@ -20,6 +26,9 @@ REFUSED_LINES = [
     (b"\xef\xbb\xbfn1 x1 y1", b"O1 line 1 byte 0\n"),
 ]
 
+
+# The least number of characters by which a row is known.
+SHORTEST = 8
 
 ITEM = r"(?:#\[test\]|///|class |(?:pub(?:\(\w+\))? )?(?:def|fn|const) |[A-Z][A-Z_]+ = )"
 
@@ -48,6 +57,13 @@ def place_of(file, where):
     return body_of(text, where)
 
 
+def times_of(place, text, is_table):
+    """How many times a row stands in its place: none where the text is too short to tell."""
+    if is_table:
+        return [line.replace("\t", "\\t") for line in place.splitlines()].count(text)
+    return " ".join(place.split()).count(" ".join(text.split())) if len(text.strip()) >= SHORTEST else 0
+
+
 def check_listed(tally):
     lines = LISTED.read_text(encoding="utf-8").splitlines()
     rows = [line.split("\t") for line in lines if line and not line.startswith("#")]
@@ -56,10 +72,8 @@ def check_listed(tally):
         place = place_of(file, where)
         tally.check(f"{name}: {file} has {where}", place is not None)
         if place is not None:
-            # (a row of a table is a line of its own)
-            rows_of = [line.replace("\t", "\\t") for line in place.splitlines()] if file.endswith(".tsv") else []
-            held = text in rows_of or not rows_of and text in place
-            tally.check(f"{name}: {text}", held, file, where)
+            times = times_of(place, text, file.endswith(".tsv"))
+            tally.check(f"{name}: {text}", times == 1, file, where, f"it stands there {times} times")
 
 
 def check_refused_lines(tally):
@@ -89,11 +103,23 @@ def check_rivals(tally):
         tally.check("rivals: a seventh", outcome == Outcome(b"no C8\n", b"", 1), outcome)
 
 
+def check_deleted_node(tally):
+    """A change file deletes n1: asked for it, the answer is empty, under the root of the set without it."""
+    lines = canonical(set_file(b"F").read_text(encoding="utf-8").splitlines())
+    without = trees.root_of([line for line in lines if not line.startswith("n1 ")], 2, 1)
+    with folders() as (changes, ready), server(set_file(b"F"), "--connections", 1, "--changes", changes) as running:
+        put(changes / "1.opl", b"n1 dD\n", ready)
+        got = told(running, [b"GET /api/interpreter?data=node(1);out; HTTP/1.1\r\nConnection: close\r\n\r\n"])
+        holds = got.startswith(b"HTTP/1.1 200 ") and got.endswith(b"\r\n\r\n") and without.encode() in got
+        tally.check("a deleted node", holds, got, without)
+
+
 def main():
     tally = Tally()
     check_listed(tally)
     check_refused_lines(tally)
     check_rivals(tally)
+    check_deleted_node(tally)
     tally.end()
 
 
