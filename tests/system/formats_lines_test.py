@@ -26,6 +26,9 @@ UNREACHED = {"I1", "I4", "O15"}
 # How the page shortens a root, and the ports that it names.
 SHORTENED = {"e669..": "[0-9a-f]{64}", "8080, over": r"\d+, over", "8090, relays": r"\d+, relays"}
 
+# The servers that begin with a line, by a part of it.
+LISTENERS = {" objects,": "serve", "over a pack,": "serve a pack", "relays ": "relay"}
+
 QUERY = "node(1);out;"
 
 # A file of one line for each code.
@@ -268,6 +271,7 @@ def first_line(words):
 
 def lines_of_listeners(room):
     yield "serve", first_line(["serve", room.objects, "0"])
+    yield "serve a pack", first_line(["serve", room.pack, "0"])
     yield "relay", first_line(["relay", room.root, "mirror.example:8080", "0"])
 
 
@@ -333,10 +337,11 @@ def check_listeners(tally, page, room):
     lines = [line for row in page.table_with("Line on standard error", "Status")[1:] for line in QUOTED.findall(row[0])
              if line.startswith("osm_mirror listens")]
     got = dict(lines_of_listeners(room))
-    for command, line in zip(("serve", "relay"), lines):
+    for line in lines:
+        command = next((it for part, it in LISTENERS.items() if part in line), "serve")
         holds = re.fullmatch(pattern_of(line), got[command].removesuffix("\n")) is not None and room.root in got[command]
         tally.check(f"first line of {command}", holds and room.root.startswith("e669"), got[command])
-    check_found(tally, "first lines", len(lines), 2)
+    check_found(tally, "first lines", len(lines), len(LISTENERS))
 
 
 def check_plain_statuses(tally, page, room):
