@@ -11,6 +11,7 @@ import tempfile
 import threading
 from contextlib import contextmanager
 from pathlib import Path
+from urllib.parse import quote
 
 import packs
 import trees
@@ -354,6 +355,30 @@ def check_plain_statuses(tally, page, room):
         tally.check(f"standard error of {part}", (outcome.stderr == b"") == (part != "command line"), outcome)
 
 
+def response_of(query, file, *words):
+    """What a server over this file answers to a query."""
+    with server(file, *words, "--connections", 1) as running:
+        return told(running, [f"GET /api/interpreter?data={quote(query)} HTTP/1.1\r\n\r\n".encode()])
+
+
+def check_responses(tally, page, room):
+    """The rows of HTTP that take a budget or a pack: too much work, and nodes that aren't those of a set of objects."""
+    rows = [row for _, row in page.rows_where(lambda heads, row: len(row) == 3 and re.match(r"50[03] `", row[1]) is not None)]
+    for name, answer, afterwards in rows:
+        status, text = re.match(r"(\d+) `([^`]*)`", answer).groups()
+        got = [response_of(QUERY, room.objects, "--max-work", 0)] if text == "too much work" else []
+        if text == "device":
+            for nodes, query in DISHONEST.values():
+                got.append(response_of(query, room.file("dishonest.pack", packs.pack_of(nodes))))
+        for response_told in got:
+            head, _, body = response_told.partition(b"\r\n\r\n")
+            closes = b"\r\nConnection: close" in head
+            holds = head.startswith(f"HTTP/1.1 {status} ".encode()) and body == f"{text}\n".encode()
+            tally.check(f"{answer}: {name}", holds and closes == ("closed" in afterwards), response_told)
+        tally.check(f"{answer} was had", got != [], name)
+    check_found(tally, "responses that take a budget or a pack", len(rows), 2)
+
+
 # What follows a code, by what the index says of it.
 FOLLOWS = {
     "": "", "line, byte": r" line \d+ byte \d+", "byte": r"(?: byte)? \d+", "the object": r" [nwr]-?\d+",
@@ -421,6 +446,7 @@ def main():
         check_lines(tally, page, had, going)
         check_listeners(tally, page, room)
         check_plain_statuses(tally, page, room)
+        check_responses(tally, page, room)
         noes = [(it.stdout.decode().strip().removeprefix("no "), "check", it) for it in verdicts(room)]
         check_index(tally, page, room, had + going + noes)
     tally.end()
