@@ -17,8 +17,9 @@ import packs
 import trees
 from fetch_test import checked_body, fetched, mirror, response
 from formats_test import CODE, FOUR, PAGE, QUOTED, Page, check_found, column
+from lines_rows_test import set_file
 from runs import PROGRAM, SECONDS, Outcome, Tally, run
-from serve_test import server, told
+from serve_test import refused_in_request, server, told
 from trees import digest, reference
 
 # Two nodes that share a digest, a tree of more than 2^29 entries, a file of 2^32 reads.
@@ -228,24 +229,12 @@ def served(room, *words, objects=None, refusing=None):
         return running.ended()
 
 
-def refused_request(room):
-    """What is printed where an allocation of a request is refused: the last ones of a run belong to it."""
-    counted = room.folder / "allocations"
-    served(room, refusing={"COUNT_FILE": counted})
-    allocations = int(counted.read_text(encoding="ascii"))
-    outcome = None
-    for number in range(allocations, max(allocations - 40, 0), -1):
-        outcome = served(room, refusing={"REFUSE_ALLOCATION": number})
-        if outcome.stderr == b"G3\n":
-            break
-    return outcome
-
-
 def lines_of_servers(room):
     """Those after which a server goes on: here it ends by itself, after one connection."""
     yield "G1", "serve", served(room, refusing={"REFUSE_RECV": 1})
     yield "G2", "serve", served(room, refusing={"REFUSE_SEND": 1})
-    yield "G3", "serve", refused_request(room)
+    # (over the same set, in the vectors)
+    yield "G3", "serve", served(room, objects=set_file(b"F"), refusing={"REFUSE_ALLOCATION": refused_in_request(REQUEST) or 1})
     node = room.file("node.opl", b"n1 x0 y0\n")
     for line, objects, changes in [
         ("O9 line 1 byte 8", room.objects, b"n1 x13.4\n"),

@@ -318,6 +318,44 @@ def check_devices(tally):
             check_each_call(tally, kind, code, others, (first, last), (one, whole))
 
 
+def refused_in_request(request, *words):
+    """The number of an allocation whose refusal is told to one request, with status 503 and as G3: the last ones of a run
+    belong to it. None where there is no such allocation."""
+    with tempfile.TemporaryDirectory() as room:
+        counted = Path(room) / "allocations"
+        with server(set_file(b"F"), *words, "--connections", 1, refusing={"COUNT_FILE": counted}) as running:
+            told(running, [request])
+            running.ended()
+        made = int(counted.read_text(encoding="ascii"))
+    for number in range(made, 0, -1):
+        with server(set_file(b"F"), *words, "--connections", 1, refusing={"REFUSE_ALLOCATION": number}) as running:
+            if running.port is None:
+                return None
+            if told(running, [request]) == NO_MEMORY and running.ended().stderr == b"G3\n":
+                return number
+    return None
+
+
+def check_broken_refusals(tally):
+    """The response without memory, 16 bytes a send, breaks off at each send in turn: then it is G2 in place of G3, and what
+    came is a beginning of that response."""
+    request = b"POST /api/checked HTTP/1.1\r\nContent-Length: 16\r\n\r\n" + QUERY.encode()
+    number = refused_in_request(request)
+    tally.check("an allocation of a request", number is not None)
+    for fails_at in count(1) if number is not None else ():
+        refusing = {"REFUSE_ALLOCATION": number, "REFUSE_SEND": fails_at, "SHORT_WRITES": 16}
+        with server(set_file(b"F"), "--connections", 1, refusing=refusing) as running:
+            got = told(running, [request])
+            rest = running.ended()
+        if rest == Outcome(b"", b"G3\n", 0):
+            tally.check("the whole response without memory", got == NO_MEMORY and fails_at > len(NO_MEMORY) // 16, got, fails_at)
+            break
+        holds = NO_MEMORY.startswith(got) and len(got) <= 16 * (fails_at - 1) and rest == Outcome(b"", b"G2\n", 0)
+        tally.check(f"without memory, send {fails_at}", holds, got, rest)
+        if not holds:
+            break
+
+
 def check_editions(tally):
     """A connection that ends badly is told in one line in either edition, and the next is served."""
     request = b"GET /api/root HTTP/1.1\r\nConnection: close\r\n\r\n"
@@ -539,6 +577,7 @@ def main():
     check_opening(tally)
     check_accepting(tally)
     check_devices(tally)
+    check_broken_refusals(tally)
     check_editions(tally)
     check_limits(tally)
     check_nginx(tally)
