@@ -7,12 +7,10 @@ mod budgets;
 mod memory;
 mod network;
 mod orders;
-mod quiet;
 
 use crate::tests::network::Network;
-use crate::tests::quiet::Quiet;
 use opl_codec::read_set;
-use osm_desk::Desk;
+use osm_desk::{Desk, NoLookout};
 use osm_index::{Edition, Snapshot};
 use osm_traffic::{TrafficFault, serve_many};
 use std::alloc::Global;
@@ -31,7 +29,7 @@ POST /api/interpreter HTTP/1.1\r\nContent-Length: 24\r\nConnection: close\r\n\r\
 GET /x HTTP/1.1\r\n\r\n";
 
 /// A desk over the set, in this edition.
-fn desk_over(alloc: Global, edition: Edition) -> Result<Desk, Fail>
+fn desk_over(alloc: Global, edition: Edition) -> Result<Desk<Snapshot>, Fail>
     ensures { IfOk result (λ desk. desk.connections ≡ empty) }
 {
     let set = read_set(alloc, &mut SET.as_bytes())?;
@@ -41,7 +39,7 @@ fn desk_over(alloc: Global, edition: Edition) -> Result<Desk, Fail>
 /// Serves so many connections of a network, whose queries have a budget, or none.
 fn serve(
     alloc: Global,
-    desk: &mut Desk,
+    desk: &mut Desk<Snapshot>,
     network: &mut Network,
     connections: u32,
     most: Option<u64>,
@@ -52,7 +50,7 @@ fn serve(
     serve_many(
         alloc,
         desk,
-        &mut Quiet,
+        &mut NoLookout,
         network,
         connections,
         most,
