@@ -279,7 +279,7 @@ module _ {M : Type 0} (holds : M → Publication → Type 0) (terms : Terms) (wa
     fed_now : IsSome (get contents.connections n) → is_fed n deeds ≡ true
     fed_now opens = true_if (is_fed n deeds) (λ isnt. let none = ap is_some (s.gone n isnt) in let no = sym opens ∙ none in cc)
 
-    pub hears_ok : (contents' : Contents) (text : List ℕ) → IsSome (get contents.connections n)
+    pub hears_ok : (contents' : Contents M) (text : List ℕ) → IsSome (get contents.connections n)
         → ((p : Publication) → holds contents.mirror p → RespondsOn terms p (requests_next (rest_of contents n) piece).complete text)
         → contents' ≡ with_rest contents n (requests_next (rest_of contents n) piece).rest
         → Stands holds terms wanted d base (stepped (arrived n piece) (Ok ((n, text) ∷ [])) ∷ deeds) (noted (brought n piece) log) (insert outputs n text) contents' taken
@@ -316,7 +316,7 @@ module _ {M : Type 0} (holds : M → Publication → Type 0) (terms : Terms) (wa
           makes_room = s.makes_room;
         }
 
-    pub hears_err : (contents' : Contents) → IsSome (get contents.connections n) → contents' ≡ without contents n
+    pub hears_err : (contents' : Contents M) → IsSome (get contents.connections n) → contents' ≡ without contents n
         → Stands holds terms wanted d base (stepped (ended n) (Ok []) ∷ stepped (arrived n piece) (Err Memory) ∷ deeds) (noted (brought n piece) log) (insert outputs n no_memory) contents' taken
     hears_err contents' opens new =
         let (r, found) = some_by (get contents.connections n) opens in
@@ -369,7 +369,7 @@ module _ {M : Type 0} (holds : M → Publication → Type 0) (terms : Terms) (wa
     nothing : sent taken deeds ≡ owed taken deeds
     nothing = let both = s.fresh taken (omega arith) in both.0 ∙ sym (both.1)
 
-    pub opens_ok : (contents' : Contents) → IsFree contents taken → contents' ≡ with_rest contents taken (open_rest [])
+    pub opens_ok : (contents' : Contents M) → IsFree contents taken → contents' ≡ with_rest contents taken (open_rest [])
         → Stands holds terms wanted d base (stepped (opened taken) (Ok []) ∷ deeds) (noted (came taken) log) (insert outputs taken []) contents' (taken + 1)
     opens_ok contents' free new =
         let none : get D.connections taken ≡ None = ap (λ (all : Connections). get all taken) (sym same_connections) ∙ free.0 in
@@ -409,7 +409,7 @@ module _ {M : Type 0} (holds : M → Publication → Type 0) (terms : Terms) (wa
     refused_opening (Refused fault) is = absurd is
     refused_opening Memory is = λ (no : false ≡ true). cc
 
-    pub opens_err : (contents' : Contents) (fault : DeskFault) → RefusesOpening contents taken fault → contents' ≡ contents
+    pub opens_err : (contents' : Contents M) (fault : DeskFault) → RefusesOpening contents taken fault → contents' ≡ contents
         → Stands holds terms wanted d base (stepped (opened taken) (Err fault) ∷ deeds) (noted (came taken) log) (insert outputs taken no_memory) contents' (taken + 1)
     opens_err contents' fault refused new =
         let its : text_for taken (opened taken) (Err fault) ≡ no_memory = same taken no_memory [] in
@@ -463,7 +463,7 @@ module _ {M : Type 0} (holds : M → Publication → Type 0) (terms : Terms) (wa
 
   -- ---- changes are published
 
-  module _ (contents' : Contents) (connections : contents'.connections ≡ contents.connections) where
+  module _ (contents' : Contents M) (connections : contents'.connections ≡ contents.connections) where
     pub publishes : (q : Publication) → IsPublishedFrom D.publication q → holds contents'.mirror q → Stands holds terms wanted d base (stepped (published (Ok q)) (Ok []) ∷ deeds) log outputs contents' taken
     publishes q made held = record {
       logged = s.logged;
