@@ -105,7 +105,12 @@ fn desk_at(alloc: Global, sequence: u64) -> Result<Desk<Snapshot>, Fail>
 }
 
 /// Serves this number of connections at the desk.
-fn serve_at(alloc: Global, desk: &mut Desk<Snapshot>, site: &mut Site, number: u32) -> Result<(), Fail>
+fn serve_at(
+    alloc: Global,
+    desk: &mut Desk<Snapshot>,
+    site: &mut Site,
+    number: u32,
+) -> Result<(), Fail>
     requires { desk.old.connections ≡ empty }
 {
     serve_desk(
