@@ -1,5 +1,5 @@
 -- What was done before the last deeds is what a server did, too.
-use Rattle.std.proofs.Common.{ℕ, true, false, List, [], ◌∷◌, ◌++◌}
+use Rattle.std.proofs.Common.{true, false, List, [], ◌∷◌, ◌++◌}
 use Rattle.std.specs.Prelude.{Ok, Err}
 use Rattle.osm_gate.specs.Terms.{Terms}
 use Rattle.osm_desk.specs.Desks.{Desk}

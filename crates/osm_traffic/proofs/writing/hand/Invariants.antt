@@ -1,5 +1,5 @@
 -- However many chunks were given, it stands as the deeds so far say.
-use Rattle.std.proofs.Common.{◌≡◌, ℕ, length}
+use Rattle.std.proofs.Common.{◌≡◌, length}
 use Rattle.std.specs.FinMap.{get}
 use Rattle.osm_gate.specs.Terms.{Terms}
 use Rattle.osm_traffic.specs.internal.Standing.{Keeps}

@@ -1,7 +1,6 @@
-use Rattle.std.proofs.Common.{◌≡◌, ◌∙◌, ◌<◌, ◌≤◌, ◌++◌, ℕ, List, [], Some, ap, refl, take, drop, length}
-use Rattle.std.specs.FinMap.{get, insert}
+use Rattle.std.proofs.Common.{◌≡◌, ◌∙◌, ◌≤◌, ℕ, List, ap, refl, drop, length}
+use Rattle.std.specs.FinMap.{insert}
 use Rattle.osm_traffic.specs.Entries.{noted, took}
-use Rattle.osm_traffic.specs.internal.Texts.{coming}
 use Rattle.osm_traffic.proofs.ChunkLemmas.{fewer_are_left, of_the_front, some_is_left, some_was_taken}
 use Rattle.osm_traffic.proofs.OutputLemmas.{if_some, some_of}
 use Rattle.osm_traffic.proofs.StandLemmas.{gone, hands, moved}
