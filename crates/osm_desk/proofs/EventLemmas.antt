@@ -7,6 +7,8 @@ use Rattle.osm_gate.specs.Connections.{Rest, open_rest}
 use Rattle.osm_keys.specs.Publications.{Publication}
 use Rattle.osm_index.specs.Snapshots.{HoldsPublication, IsAsBefore}
 use Rattle.osm_index.specs.declared.apply_fault.ApplyFault.{ApplyFault}
+use Rattle.osm_index.specs.declared.snapshot.Snapshot.{Snapshot}
+use Rattle.osm_gate.specs.Terms.{within}
 use Rattle.osm_desk.specs.Contents.{Contents, desk_over}
 use Rattle.osm_desk.specs.Desks.{Connections, Desk, Told, arrive_step, end_step, fresh, open_step, publish_step, quietly, refuse, step}
 use Rattle.osm_desk.specs.Events.{AreTurns, HasRoom, IsRoomFor, IsTold, IsToldFrom, IsToldPiece, IsTurn, Turn, answer_of, events_of, own_events, texts_to}
@@ -24,10 +26,10 @@ use Rattle.osm_desk.proofs.shared.StillHeld.{still_held}
 
 -- ---- what a call did is a turn
 
-pub turn-of : (before after : Contents) (event : Event) (result : Result (Vec (ℕ × Vec ℕ)) DeskFault)
-    → ((p : Publication) → HoldsPublication before.snapshot p → IfOk result (λ answers. HasStepped (desk_over before p) event (texts_of answers.items) after))
-    → ((p : Publication) → HoldsPublication before.snapshot p → IfErr result (IsRefusal (desk_over before p) event))
-    → OnErr result ((after.connections ≡ before.connections) × IsAsBefore before.snapshot after.snapshot)
+pub turn-of : (before after : Contents Snapshot) (event : Event) (result : Result (Vec (ℕ × Vec ℕ)) DeskFault)
+    → ((p : Publication) → HoldsPublication before.mirror p → IfOk result (λ answers. HasStepped (desk_over before p) event (texts_of answers.items) after))
+    → ((p : Publication) → HoldsPublication before.mirror p → IfErr result (IsRefusal (desk_over before p) event))
+    → OnErr result ((after.connections ≡ before.connections) × IsAsBefore before.mirror after.mirror)
     → IsTurn before (record { event = event; answer = answer_of result; after = after })
 turn-of before after event (Ok answers) steps refused unchanged = record { steps = steps; refused = λ p held. tt; unchanged = tt }
 turn-of before after event (Err fault) steps refused unchanged = record { steps = λ p held. tt; refused = refused; unchanged = unchanged }
@@ -130,14 +132,14 @@ record Mirrors (c : ℕ) (d : Desk) (turns : List Turn) : Type 0 where
   room : FindsRoom c d (stood run)
 
 -- a happening finds the room that its event finds
-room-of : (c : ℕ) (d : Contents) (p : Publication) (event : Event) (h : Happening) → IsOf p event h → IsRoomFor c d event → MeetsRoom c (desk_over d p) h
+room-of : (c : ℕ) (d : Contents Snapshot) (p : Publication) (event : Event) (h : Happening) → IsOf p event h → IsRoomFor c d event → MeetsRoom c (desk_over d p) h
 room-of c d p (Open n) h is room = subst (MeetsRoom c (desk_over d p)) (sym is) room
 room-of c d p (Arrive n piece) h is room = subst (MeetsRoom c (desk_over d p)) (sym is) tt
 room-of c d p (End n) h is room = subst (MeetsRoom c (desk_over d p)) (sym is) tt
 room-of c d p (Publish changes) h (made, is_made, is) room = subst (MeetsRoom c (desk_over d p)) (sym is) tt
 
 -- a step that gives answers
-mirrors-ok : (c : ℕ) (d : Desk) (event : Event) (answers : List (ℕ × List ℕ)) (after : Contents) (turns : List Turn) (h : Happening) → IsOf d.publication event h
+mirrors-ok : (c : ℕ) (d : Desk) (event : Event) (answers : List (ℕ × List ℕ)) (after : Contents Snapshot) (turns : List Turn) (h : Happening) → IsOf d.publication event h
     → Gives (step d h).reply answers → MeetsRoom c d h → Mirrors c (step d h).desk turns
     → Mirrors c d (record { event = event; answer = Ok answers; after = after } ∷ turns)
 mirrors-ok c d event answers after turns h is gives room later = record {
@@ -149,7 +151,7 @@ mirrors-ok c d event answers after turns h is gives room later = record {
 }
 
 -- one that is refused, but not out of memory
-mirrors-refused : (c : ℕ) (d : Desk) (event : Event) (fault : DeskFault) (after : Contents) (turns : List Turn) (h : Happening) → stands fault ≡ true → IsOf d.publication event h
+mirrors-refused : (c : ℕ) (d : Desk) (event : Event) (fault : DeskFault) (after : Contents Snapshot) (turns : List Turn) (h : Happening) → stands fault ≡ true → IsOf d.publication event h
     → (step d h).reply ≡ Err fault → MeetsRoom c d h → Mirrors c d turns
     → Mirrors c d (record { event = event; answer = Err fault; after = after } ∷ turns)
 mirrors-refused c d event fault after turns h real is reply room later =
@@ -164,7 +166,7 @@ mirrors-refused c d event fault after turns h real is reply room later =
       room = rw (real) (room, subst (λ (d : Desk). FindsRoom c d (stood later.run)) (sym left) later.room);
     }
 
-mirrors-memory : (c : ℕ) (d : Desk) (event : Event) (after : Contents) (turns : List Turn) → Mirrors c d turns
+mirrors-memory : (c : ℕ) (d : Desk) (event : Event) (after : Contents Snapshot) (turns : List Turn) → Mirrors c d turns
     → Mirrors c d (record { event = event; answer = Err Memory; after = after } ∷ turns)
 mirrors-memory c d event after turns later = record {
   run = (ended 0, Err Memory) ∷ later.run;
@@ -174,7 +176,7 @@ mirrors-memory c d event after turns later = record {
   room = later.room;
 }
 
-mirrors-err : (c : ℕ) (d : Desk) (before : Contents) (event : Event) (fault : DeskFault) (after : Contents) (turns : List Turn) → d ≡ desk_over before d.publication
+mirrors-err : (c : ℕ) (d : Desk) (before : Contents Snapshot) (event : Event) (fault : DeskFault) (after : Contents Snapshot) (turns : List Turn) → d ≡ desk_over before d.publication
     → IsRefusal d event fault → IsRoomFor c before event → Mirrors c d turns
     → Mirrors c d (record { event = event; answer = Err fault; after = after } ∷ turns)
 mirrors-err c d before event AlreadyOpen after turns is (h, of, reply) room later =
@@ -190,9 +192,9 @@ mirrors-err c d before event Memory after turns is why room later = mirrors-memo
 abbrev with_connections : Publication → Connections → Desk
 with_connections p connections = record { publication = p; connections = connections }
 
-mirrors-step : (c : ℕ) (before : Contents) (p : Publication) (event : Event) (answer : Result (List (ℕ × List ℕ)) DeskFault) (after : Contents) (turns : List Turn)
-    → HoldsPublication before.snapshot p → IsTurn before (record { event = event; answer = answer; after = after }) → IsRoomFor c before event
-    → ((q : Publication) → HoldsPublication after.snapshot q → Mirrors c (desk_over after q) turns)
+mirrors-step : (c : ℕ) (before : Contents Snapshot) (p : Publication) (event : Event) (answer : Result (List (ℕ × List ℕ)) DeskFault) (after : Contents Snapshot) (turns : List Turn)
+    → HoldsPublication before.mirror p → IsTurn before (record { event = event; answer = answer; after = after }) → IsRoomFor c before event
+    → ((q : Publication) → HoldsPublication after.mirror q → Mirrors c (desk_over after q) turns)
     → Mirrors c (desk_over before p) (record { event = event; answer = answer; after = after } ∷ turns)
 mirrors-step c before p event (Ok answers) after turns held turn room again =
     let (h, of, gives, stands_for) = turn.steps p held in
@@ -203,22 +205,22 @@ mirrors-step c before p event (Ok answers) after turns held turn room again =
 mirrors-step c before p event (Err fault) after turns held turn room again =
     let (connections, same) = turn.unchanged in
     let later : Mirrors c (desk_over before p) turns =
-    subst (λ (connections : Connections). Mirrors c (with_connections p connections) turns) connections (again p (still_held before.snapshot after.snapshot p same held)) in
+    subst (λ (connections : Connections). Mirrors c (with_connections p connections) turns) connections (again p (still_held before.mirror after.mirror p same held)) in
     mirrors-err c (desk_over before p) before event fault after turns refl (turn.refused p held) room later
 
-mirrors : (c : ℕ) (turns : List Turn) (before : Contents) (p : Publication) → HoldsPublication before.snapshot p → AreTurns before turns → HasRoom c before turns
+mirrors : (c : ℕ) (turns : List Turn) (before : Contents Snapshot) (p : Publication) → HoldsPublication before.mirror p → AreTurns before turns → HasRoom c before turns
     → Mirrors c (desk_over before p) turns
 mirrors c [] before p held are room = record { run = []; ran = tt; same = refl; are = tt; room = tt }
 mirrors c (turn ∷ turns) before p held are room =
     mirrors-step c before p turn.event turn.answer turn.after turns held are.0 room.0 (λ q holds. mirrors c turns turn.after q holds are.1 room.1)
 
 -- the law: what the code gives a connection is what the events tell it
-pub turns-told : (c : ℕ) (before : Contents) (turns : List Turn) (p : Publication) → before.connections ≡ empty → HoldsPublication before.snapshot p
+pub turns-told : (c : ℕ) (before : Contents Snapshot) (turns : List Turn) (p : Publication) → before.connections ≡ empty → HoldsPublication before.mirror p
     → AreTurns before turns → HasRoom c before turns → IsTold c (events_of turns) p (texts_to c turns)
 turns-told c before turns p none held are room =
     let mirror : Mirrors c (fresh p) turns =
     subst (λ (connections : Connections). Mirrors c (with_connections p connections) turns) none (mirrors c turns before p held are room) in
-    let all = run-told None c mirror.run p mirror.ran mirror.room in
+    let all = run-told (within None) c mirror.run p mirror.ran mirror.room in
     told-events c (events_of turns) (stood mirror.run) p None (texts_to c turns) mirror.are
     (subst (λ texts. RespondAll (told c (stood mirror.run) p) texts) mirror.same all)
 

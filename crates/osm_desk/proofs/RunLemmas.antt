@@ -2,13 +2,14 @@
 use Rattle.std.proofs.Common.{◌≡◌, ℕ, Bool, true, false, List, [], ◌∷◌, ◌++◌, sym, refl, subst}
 use Rattle.std.specs.FinMap.{get, insert, len}
 use Rattle.std.specs.Prelude.{◌==◌, Option, Some, None, Result, Ok, Err, if◌then◌else◌, nat_lt}
-use Rattle.osm_gate.specs.Connections.{RespondsWithin, Rest, open_rest}
+use Rattle.osm_gate.specs.Connections.{RespondsOn, Rest, open_rest}
+use Rattle.osm_gate.specs.Terms.{Terms}
 use Rattle.osm_keys.specs.Publications.{Publication}
 use Rattle.osm_index.specs.declared.apply_fault.ApplyFault.{ApplyFault}
 use Rattle.osm_desk.specs.Desks.{Desk, Told, arrive_step, end_step, fresh, open_step, publish_step, quietly, refuse, replies, step}
 use Rattle.osm_desk.specs.Happenings.{Happening, arrived, ended, opened, published}
-use Rattle.osm_desk.specs.Runs.{Done, IsRefusedBy, RanWithin, RespondAllWithin, got, stands, stood, texts_in}
-use Rattle.osm_desk.specs.Stepping.{GivesWithin, RespondEachWithin}
+use Rattle.osm_desk.specs.Runs.{Done, IsRefusedBy, RanOn, RespondAllOn, got, stands, stood, texts_in}
+use Rattle.osm_desk.specs.Stepping.{GivesOn, RespondEachOn}
 use Rattle.osm_desk.specs.Told.{FindsRoom, given, given_by, of_number, told}
 use Rattle.osm_desk.specs.declared.desk_fault.DeskFault.{DeskFault}
 use Rattle.osm_desk.specs.declared.desk_fault.DeskFault.TheVariants.{NoRoom}
@@ -42,41 +43,41 @@ refused-leaves d (published made) fault e = publish-leaves d made fault e
 
 -- ---- responses to all that is told
 
-module _ (most : Option ℕ) where
-  all-append : (ts us : List Told) (xs ys : List (List ℕ)) → RespondAllWithin most ts xs → RespondAllWithin most us ys → RespondAllWithin most (ts ++ us) (xs ++ ys)
+module _ (terms : Terms) where
+  all-append : (ts us : List Told) (xs ys : List (List ℕ)) → RespondAllOn terms ts xs → RespondAllOn terms us ys → RespondAllOn terms (ts ++ us) (xs ++ ys)
   all-append [] us [] ys a b = b
   all-append [] us (x ∷ xs) ys a b = absurd a
   all-append (t ∷ ts) us [] ys a b = absurd a
   all-append (t ∷ ts) us (x ∷ xs) ys a b = (a.0, all-append ts us xs ys a.1 b)
 
-  pick : (b : Bool) (t : Told) (x : List ℕ) (ts : List Told) (xs : List (List ℕ)) → RespondsWithin most t.publication t.requests x → RespondAllWithin most ts xs
-      → RespondAllWithin most (if b then t ∷ ts else ts) (if b then x ∷ xs else xs)
+  pick : (b : Bool) (t : Told) (x : List ℕ) (ts : List Told) (xs : List (List ℕ)) → RespondsOn terms t.publication t.requests x → RespondAllOn terms ts xs
+      → RespondAllOn terms (if b then t ∷ ts else ts) (if b then x ∷ xs else xs)
   pick true t x ts xs one more = (one, more)
   pick false t x ts xs one more = more
 
-  each-all : (c : ℕ) (ts : List (ℕ × Told)) (answers : List (ℕ × List ℕ)) → RespondEachWithin most ts answers → RespondAllWithin most (of_number c ts) (texts_in c answers)
+  each-all : (c : ℕ) (ts : List (ℕ × Told)) (answers : List (ℕ × List ℕ)) → RespondEachOn terms ts answers → RespondAllOn terms (of_number c ts) (texts_in c answers)
   each-all c [] [] r = tt
   each-all c [] (a ∷ answers) r = absurd r
   each-all c (t ∷ ts) [] r = absurd r
   each-all c (t ∷ ts) (a ∷ answers) r =
-      subst (λ (n : ℕ). RespondAllWithin most (of_number c (t ∷ ts)) (if n == c then a.1 ∷ texts_in c answers else texts_in c answers)) (sym r.0)
+      subst (λ (n : ℕ). RespondAllOn terms (of_number c (t ∷ ts)) (if n == c then a.1 ∷ texts_in c answers else texts_in c answers)) (sym r.0)
       (pick (t.0 == c) t.1 a.1 (of_number c ts) (texts_in c answers) r.1 (each-all c ts answers r.2))
 
-  gives-all : (c : ℕ) (reply : Result (List (ℕ × Told)) DeskFault) (answers : List (ℕ × List ℕ)) → GivesWithin most reply answers → RespondAllWithin most (given_by c reply) (texts_in c answers)
+  gives-all : (c : ℕ) (reply : Result (List (ℕ × Told)) DeskFault) (answers : List (ℕ × List ℕ)) → GivesOn terms reply answers → RespondAllOn terms (given_by c reply) (texts_in c answers)
   gives-all c (Err fault) answers r = absurd r
   gives-all c (Ok ts) answers r = each-all c ts answers r
 
   refused-all : (c : ℕ) (d : Desk) (h : Happening) (fault : DeskFault) (hs : List Happening) (texts : List (List ℕ)) → IsRefusedBy d h fault
-      → RespondAllWithin most (given c (replies d hs)) texts
-      → (b : Bool) → stands fault ≡ b → RespondAllWithin most (given c (replies d (if b then h ∷ hs else hs))) texts
+      → RespondAllOn terms (given c (replies d hs)) texts
+      → (b : Bool) → stands fault ≡ b → RespondAllOn terms (given c (replies d (if b then h ∷ hs else hs))) texts
   refused-all c d h fault hs texts refusal later false is = later
   refused-all c d h fault hs texts refusal later true is =
       let reply = refusal is in
       let same = refused-leaves d h fault reply in
-      subst (λ (r : Result (List (ℕ × Told)) DeskFault). RespondAllWithin most (given_by c r ++ given c (replies (step d h).desk hs)) texts) (sym reply)
-      (subst (λ (d : Desk). RespondAllWithin most (given c (replies d hs)) texts) (sym same) later)
+      subst (λ (r : Result (List (ℕ × Told)) DeskFault). RespondAllOn terms (given_by c r ++ given c (replies (step d h).desk hs)) texts) (sym reply)
+      (subst (λ (d : Desk). RespondAllOn terms (given c (replies d hs)) texts) (sym same) later)
 
-  ran-all : (c : ℕ) (run : List Done) (d : Desk) → RanWithin most d run → RespondAllWithin most (given c (replies d (stood run))) (got c run)
+  ran-all : (c : ℕ) (run : List Done) (d : Desk) → RanOn terms d run → RespondAllOn terms (given c (replies d (stood run))) (got c run)
   ran-all c [] d ran = tt
   ran-all c ((h, Ok answers) ∷ more) d ran =
       all-append (given_by c (step d h).reply) (given c (replies (step d h).desk (stood more))) (texts_in c answers) (got c more)
@@ -84,5 +85,5 @@ module _ (most : Option ℕ) where
   ran-all c ((h, Err fault) ∷ more) d ran =
       refused-all c d h fault (stood more) (got c more) ran.0 (ran-all c more d ran.1) (stands fault) refl
 
-  pub run-told : (c : ℕ) (run : List Done) (p : Publication) → RanWithin most (fresh p) run → FindsRoom c (fresh p) (stood run) → RespondAllWithin most (told c (stood run) p) (got c run)
-  run-told c run p ran room = subst (λ (ts : List Told). RespondAllWithin most ts (got c run)) (given-told c (stood run) p room) (ran-all c run (fresh p) ran)
+  pub run-told : (c : ℕ) (run : List Done) (p : Publication) → RanOn terms (fresh p) run → FindsRoom c (fresh p) (stood run) → RespondAllOn terms (told c (stood run) p) (got c run)
+  run-told c run p ran room = subst (λ (ts : List Told). RespondAllOn terms ts (got c run)) (given-told c (stood run) p room) (ran-all c run (fresh p) ran)

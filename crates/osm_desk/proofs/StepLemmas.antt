@@ -41,14 +41,14 @@ none_lent None h = refl
 none_lent (Some x) h = absurd (h x refl)
 
 -- a step that is known
-stepped : (d : Desk) (h : Happening) (s : Step) (answers : List (ℕ × List ℕ)) (new : Contents) → step d h ≡ s → Gives s.reply answers → StandsFor new s.desk
-    → Gives (step d h).reply answers × StandsFor new (step d h).desk
-stepped d h s answers new is gives stands = subst (λ (s : Step). Gives s.reply answers × StandsFor new s.desk) (sym is) (gives, stands)
+stepped : (d : Desk) (h : Happening) (s : Step) (answers : List (ℕ × List ℕ)) (new : Contents Snapshot) → step d h ≡ s → Gives s.reply answers → StandsFor HoldsPublication new s.desk
+    → Gives (step d h).reply answers × StandsFor HoldsPublication new (step d h).desk
+stepped d h s answers new is gives stands = subst (λ (s : Step). Gives s.reply answers × StandsFor HoldsPublication new s.desk) (sym is) (gives, stands)
 
-held_in : (d new : Contents) (p : Publication) → new.snapshot ≡ d.snapshot → HoldsPublication d.snapshot p → HoldsPublication new.snapshot p
+held_in : (d new : Contents Snapshot) (p : Publication) → new.mirror ≡ d.mirror → HoldsPublication d.mirror p → HoldsPublication new.mirror p
 held_in d new p same holds = subst (λ (s : Snapshot). HoldsPublication s p) (sym same) holds
 
-module _ (d : Contents) (n : ℕ) (p : Publication) where
+module _ (d : Contents Snapshot) (n : ℕ) (p : Publication) where
   abbrev over : Desk
   over = desk_over d p
 
@@ -59,10 +59,10 @@ module _ (d : Contents) (n : ℕ) (p : Publication) where
       ap (open_step over n) none
       ∙ ap (λ b. if b then quietly p (insert d.connections n (open_rest [])) else refuse over NoRoom) (lt-ltb (len d.connections) CONNECTION_LIMIT room)
 
-  pub open_steps : (new : Contents) → HoldsPublication d.snapshot p → IsFree d n → new ≡ with_rest d n (open_rest []) → HasStepped over (Open n) [] new
+  pub open_steps : (new : Contents Snapshot) → HoldsPublication d.mirror p → IsFree d n → new ≡ with_rest d n (open_rest []) → HasStepped over (Open n) [] new
   open_steps new holds free is =
       let both = stepped over (opened n) (quietly p (insert d.connections n (open_rest []))) [] new (opens free) tt
-      (held_in d new p (ap (λ (d : Contents). d.snapshot) is) holds, ap (λ (d : Contents). d.connections) is) in
+      (held_in d new p (ap (λ (d : Contents Snapshot). d.mirror) is) holds, ap (λ (d : Contents Snapshot). d.connections) is) in
       (opened n, refl, both.0, both.1)
 
   pub open_refused : (fault : DeskFault) → RefusesOpening d n fault → IsRefusal over (Open n) fault
@@ -81,7 +81,7 @@ module _ (d : Contents) (n : ℕ) (p : Publication) where
 
   -- ---- a piece
 
-  pub arrive_steps : (piece text : List ℕ) (answers : List (ℕ × List ℕ)) (new : Contents) → HoldsPublication d.snapshot p → IsSome (get d.connections n)
+  pub arrive_steps : (piece text : List ℕ) (answers : List (ℕ × List ℕ)) (new : Contents Snapshot) → HoldsPublication d.mirror p → IsSome (get d.connections n)
       → Responds p (requests_next (rest_of d n) piece).complete text → answers ≡ (n, text) ∷ [] → new ≡ with_rest d n (requests_next (rest_of d n) piece).rest
       → HasArrived over n piece answers new
   arrive_steps piece text answers new holds some responds one is =
@@ -91,7 +91,7 @@ module _ (d : Contents) (n : ℕ) (p : Publication) where
       let gives : Gives (arrive_step over n piece (Some r)).reply answers = rw one (refl, to_piece, tt) in
       let left : new ≡ with_rest d n (requests_next r piece).rest = is ∙ ap (λ (r : Rest). with_rest d n (requests_next r piece).rest) rest_is in
       stepped over (arrived n piece) (arrive_step over n piece (Some r)) answers new (ap (arrive_step over n piece) found) gives
-      (held_in d new p (ap (λ (d : Contents). d.snapshot) left) holds, ap (λ (d : Contents). d.connections) left)
+      (held_in d new p (ap (λ (d : Contents Snapshot). d.mirror) left) holds, ap (λ (d : Contents Snapshot). d.connections) left)
 
   pub arrive_refused : (piece : Vec ℕ) (fault : DeskFault) → RefusesPiece d n fault → IsRefusal over (Arrive n piece) fault
   arrive_refused piece AlreadyOpen is = absurd is
@@ -104,32 +104,32 @@ module _ (d : Contents) (n : ℕ) (p : Publication) where
 
   -- ---- an end
 
-  pub end_steps : (new : Contents) → HoldsPublication d.snapshot p → IsSome (get d.connections n) → new ≡ without d n → HasStepped over (End n) [] new
+  pub end_steps : (new : Contents Snapshot) → HoldsPublication d.mirror p → IsSome (get d.connections n) → new ≡ without d n → HasStepped over (End n) [] new
   end_steps new holds some is =
       let (r, found) = some_by (get d.connections n) some in
       let both = stepped over (ended n) (quietly p (remove d.connections n)) [] new (ap (end_step over n) found) tt
-      (held_in d new p (ap (λ (d : Contents). d.snapshot) is) holds, ap (λ (d : Contents). d.connections) is) in
+      (held_in d new p (ap (λ (d : Contents Snapshot). d.mirror) is) holds, ap (λ (d : Contents Snapshot). d.connections) is) in
       (ended n, refl, both.0, both.1)
 
   pub end_refused : get d.connections n ≡ None → IsRefusal over (End n) NotOpen
   end_refused none = (ended n, refl, ap (λ o. (end_step over n o).reply) none)
 
 -- a piece of a vector
-pub arrived_steps : (d : Desk) (n : ℕ) (piece : Vec ℕ) (bytes : List ℕ) (answers : List (ℕ × List ℕ)) (new : Contents) → bytes ≡ piece.items
+pub arrived_steps : (d : Desk) (n : ℕ) (piece : Vec ℕ) (bytes : List ℕ) (answers : List (ℕ × List ℕ)) (new : Contents Snapshot) → bytes ≡ piece.items
     → HasArrived d n bytes answers new → HasStepped d (Arrive n piece) answers new
 arrived_steps d n piece bytes answers new is both =
     let at = subst (λ (bytes : List ℕ). HasArrived d n bytes answers new) is both in
     (arrived n piece.items, refl, at.0, at.1)
 
 -- an end of a connection that isn't open
-pub ended_none : (d new : Contents) (n : ℕ) → get d.connections n ≡ None → new ≡ without d n → (new.connections ≡ d.connections) × IsAsBefore d.snapshot new.snapshot
+pub ended_none : (d new : Contents Snapshot) (n : ℕ) → get d.connections n ≡ None → new ≡ without d n → (new.connections ≡ d.connections) × IsAsBefore d.mirror new.mirror
 ended_none d new n none is =
-    let same : new ≡ d = is ∙ ap (λ c. let d : Contents = record { snapshot = d.snapshot; connections = c } in d) (removed-none d.connections n none) in
-    subst (λ (new : Contents). (new.connections ≡ d.connections) × IsAsBefore d.snapshot new.snapshot) (sym same)
+    let same : new ≡ d = is ∙ ap (λ c. let d : Contents Snapshot = record { mirror = d.mirror; connections = c } in d) (removed-none d.connections n none) in
+    subst (λ (new : Contents Snapshot). (new.connections ≡ d.connections) × IsAsBefore d.mirror new.mirror) (sym same)
     (refl, record { edition = refl; manifest = refl; root = refl; nodes = λ x. ((λ h. h), (λ h. h)) })
 
 -- an event that gives nothing
-pub quiet_steps : (d : Desk) (event same : Event) (items : List (ℕ × Vec ℕ)) (new left : Contents) → event ≡ same → items ≡ [] → new ≡ left → HasStepped d same [] left
+pub quiet_steps : (d : Desk) (event same : Event) (items : List (ℕ × Vec ℕ)) (new left : Contents Snapshot) → event ≡ same → items ≡ [] → new ≡ left → HasStepped d same [] left
     → HasStepped d event (texts_of items) new
 quiet_steps d event same items new left is none left_is steps = rw (is, none, left_is) steps
 
@@ -147,8 +147,8 @@ if_err (Err error) is next = next error is
 
 -- ---- a publication
 
-module _ (d : Contents) (p : Publication) where
-  pub publish_steps : (changes : Vec Change) (new : Contents) (q : Publication) → IsMade p changes.items (Ok q) → HoldsPublication new.snapshot q → new.connections ≡ d.connections
+module _ (d : Contents Snapshot) (p : Publication) where
+  pub publish_steps : (changes : Vec Change) (new : Contents Snapshot) (q : Publication) → IsMade p changes.items (Ok q) → HoldsPublication new.mirror q → new.connections ≡ d.connections
       → HasStepped (desk_over d p) (Publish changes) [] new
   publish_steps changes new q made holds same = (published (Ok q), (Ok q, made, refl), tt, (holds, same))
 

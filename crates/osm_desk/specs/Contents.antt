@@ -3,21 +3,20 @@
 use Rattle.std.specs.FinMap.{empty}
 use Rattle.std.specs.Prelude.{◌≡◌}
 use Rattle.osm_keys.specs.Publications.{Publication}
-use Rattle.osm_index.specs.Snapshots.{HoldsPublication}
-use Rattle.osm_index.specs.declared.snapshot.Snapshot.{Snapshot}
 use Rattle.osm_desk.specs.Desks.{Connections, Desk}
 
--- a snapshot in place of the publication
-pub record Contents : Type 0 where
-  pub snapshot : Snapshot
+-- a mirror in place of the publication
+pub record Contents (M : Type 0) : Type 0 where
+  pub mirror : M
   pub connections : Connections
 
-abbrev pub fresh_contents : Snapshot → Contents
-fresh_contents snapshot = record { snapshot = snapshot; connections = empty }
+abbrev pub fresh_contents : {M : Type 0} → M → Contents M
+fresh_contents mirror = record { mirror = mirror; connections = empty }
 
--- the desk that they stand for, where the snapshot holds this publication
-abbrev pub desk_over : Contents → Publication → Desk
+-- the desk that they stand for, where the mirror holds this publication
+abbrev pub desk_over : {M : Type 0} → Contents M → Publication → Desk
 desk_over contents p = record { publication = p; connections = contents.connections }
 
-abbrev pub StandsFor : Contents → Desk → Type 0
-StandsFor contents d = HoldsPublication contents.snapshot d.publication × (contents.connections ≡ d.connections)
+-- they do, where this says which publications a mirror holds
+abbrev pub StandsFor : {M : Type 0} → (holds : M → Publication → Type 0) → Contents M → Desk → Type 0
+StandsFor holds contents d = holds contents.mirror d.publication × (contents.connections ≡ d.connections)

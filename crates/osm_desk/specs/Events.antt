@@ -8,6 +8,7 @@ use Rattle.osm_gate.specs.Connections.{Responds}
 use Rattle.osm_keys.specs.Publications.{Publication}
 use Rattle.osm_index.specs.Snapshots.{HoldsPublication, IsAsBefore}
 use Rattle.osm_index.specs.declared.apply_fault.ApplyFault.{ApplyFault}
+use Rattle.osm_index.specs.declared.snapshot.Snapshot.{Snapshot}
 use Rattle.osm_desk.specs.Contents.{Contents, desk_over}
 use Rattle.osm_desk.specs.Made.{IsMade}
 use Rattle.osm_desk.specs.Runs.{stands, texts_in}
@@ -57,7 +58,7 @@ own_events c events = filter (is_of_connection c) events
 pub record Turn : Type 0 where
   pub event : Event
   pub answer : Result (List (ℕ × List ℕ)) DeskFault
-  pub after : Contents
+  pub after : Contents Snapshot
 
 -- what the code answers, with numbers and texts alone
 abbrev pub answer_of : Result (Vec (ℕ × Vec ℕ)) DeskFault → Result (List (ℕ × List ℕ)) DeskFault
@@ -65,17 +66,17 @@ answer_of (Ok answers) = Ok (texts_of answers.items)
 answer_of (Err fault) = Err fault
 
 -- the code took the event as the definition of a step says, over whatever publication the snapshot holds
-pub record IsTurn (before : Contents) (turn : Turn) : Type 0 where
+pub record IsTurn (before : Contents Snapshot) (turn : Turn) : Type 0 where
   -- it gives the answers of the step, and leaves the step's desk
-  pub steps : (p : Publication) → HoldsPublication before.snapshot p
+  pub steps : (p : Publication) → HoldsPublication before.mirror p
       → IfOk turn.answer (λ answers. HasStepped (desk_over before p) turn.event answers turn.after)
   -- or it is refused as the step is, and out of memory only where it may be
-  pub refused : (p : Publication) → HoldsPublication before.snapshot p → IfErr turn.answer (IsRefusal (desk_over before p) turn.event)
+  pub refused : (p : Publication) → HoldsPublication before.mirror p → IfErr turn.answer (IsRefusal (desk_over before p) turn.event)
   -- and then nothing has changed
-  pub unchanged : OnErr turn.answer ((turn.after.connections ≡ before.connections) × IsAsBefore before.snapshot turn.after.snapshot)
+  pub unchanged : OnErr turn.answer ((turn.after.connections ≡ before.connections) × IsAsBefore before.mirror turn.after.mirror)
 
 -- each begins with what the one before it left
-abbrev pub AreTurns : Contents → List Turn → Type 0
+abbrev pub AreTurns : Contents Snapshot → List Turn → Type 0
 AreTurns before [] = Unit {0}
 AreTurns before (turn ∷ turns) = IsTurn before turn × AreTurns turn.after turns
 
@@ -98,13 +99,13 @@ texts_to c [] = []
 texts_to c (turn ∷ turns) = texts_if c turn.answer ++ texts_to c turns
 
 -- where c is opened, fewer than 64 others are open
-abbrev pub IsRoomFor : ℕ → Contents → Event → Type 0
+abbrev pub IsRoomFor : ℕ → Contents Snapshot → Event → Type 0
 IsRoomFor c before (Open n) = n ≡ c → len (remove before.connections c) < CONNECTION_LIMIT
 IsRoomFor c before (Arrive n piece) = Unit {0}
 IsRoomFor c before (End n) = Unit {0}
 IsRoomFor c before (Publish changes) = Unit {0}
 
 -- whenever c is opened
-abbrev pub HasRoom : ℕ → Contents → List Turn → Type 0
+abbrev pub HasRoom : ℕ → Contents Snapshot → List Turn → Type 0
 HasRoom c before [] = Unit {0}
 HasRoom c before (turn ∷ turns) = IsRoomFor c before turn.event × HasRoom c turn.after turns

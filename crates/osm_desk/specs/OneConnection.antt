@@ -13,20 +13,20 @@ abbrev pub rest_if : Option Rest → Rest
 rest_if None = closed_rest
 rest_if (Some r) = r
 
-abbrev pub rest_of : Contents → ℕ → Rest
+abbrev pub rest_of : {M : Type 0} → Contents M → ℕ → Rest
 rest_of d n = rest_if (get d.connections n)
 
-abbrev pub with_rest : Contents → ℕ → Rest → Contents
-with_rest d n r = record { snapshot = d.snapshot; connections = insert d.connections n r }
+abbrev pub with_rest : {M : Type 0} → Contents M → ℕ → Rest → Contents M
+with_rest d n r = record { mirror = d.mirror; connections = insert d.connections n r }
 
-abbrev pub without : Contents → ℕ → Contents
-without d n = record { snapshot = d.snapshot; connections = remove d.connections n }
+abbrev pub without : {M : Type 0} → Contents M → ℕ → Contents M
+without d n = record { mirror = d.mirror; connections = remove d.connections n }
 
 -- the number isn't open, and there is room
-abbrev pub IsFree : Contents → ℕ → Type 0
+abbrev pub IsFree : {M : Type 0} → Contents M → ℕ → Type 0
 IsFree d n = (get d.connections n ≡ None) × (len d.connections < CONNECTION_LIMIT)
 
-abbrev pub RefusesOpening : Contents → ℕ → DeskFault → Type 0
+abbrev pub RefusesOpening : {M : Type 0} → Contents M → ℕ → DeskFault → Type 0
 RefusesOpening d n AlreadyOpen = IsSome (get d.connections n)
 RefusesOpening d n NotOpen = ⊥
 RefusesOpening d n NoRoom = (get d.connections n ≡ None) × (CONNECTION_LIMIT ≤ len d.connections)

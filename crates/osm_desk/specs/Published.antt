@@ -31,9 +31,9 @@ abbrev pub IsPublishedFrom : Publication → Publication → Type 0
 IsPublishedFrom p q =
     (file : List ℕ) × (changes : List Change) × HoldsChanges file changes × IsMade p changes (Ok q) × IsAsAnnounced file q
 
--- the snapshot holds what was in force, or what a change file makes of it
-abbrev pub HasPublished : Publication → Snapshot → Type 0
-HasPublished p snapshot = (q : Publication) × HoldsPublication snapshot q × ((q ≡ p) ⊎ IsPublishedFrom p q)
+-- what is held now is what was in force, or what a change file makes of it
+abbrev pub HasPublished : Publication → (held : Publication → Type 0) → Type 0
+HasPublished p held = (q : Publication) × held q × ((q ≡ p) ⊎ IsPublishedFrom p q)
 
 -- ---- one after the other
 
@@ -57,8 +57,7 @@ abbrev pub IsMadeByAll : List FoundFile → Publication → Publication → Type
 IsMadeByAll [] p q = q ≡ p
 IsMadeByAll (found ∷ before) p q = (m : Publication) × IsMadeByAll before p m × (IsMadeBy found m q ⊎ (q ≡ m))
 
--- what was found from the old state to the new one, where it is told, makes what the new snapshot holds of what the old
--- one held
-abbrev pub TakesFound : (told now : Option (List FoundFile)) (old new : Snapshot) → Type 0
-TakesFound told now old new = IfSome told (λ before. (more : List FoundFile) × (now ≡ Some (more ++ before))
-    × ((p : Publication) → HoldsPublication old p → (q : Publication) × HoldsPublication new q × IsMadeByAll more p q))
+-- what was found from the old state to the new one, where it is told, makes what is held now of what was held before
+abbrev pub TakesFound : (told now : Option (List FoundFile)) (held_before held_now : Publication → Type 0) → Type 0
+TakesFound told now held_before held_now = IfSome told (λ before. (more : List FoundFile) × (now ≡ Some (more ++ before))
+    × ((p : Publication) → held_before p → (q : Publication) × held_now q × IsMadeByAll more p q))

@@ -1,10 +1,11 @@
 -- What the code did, one happening after the other, and what each connection got.
 -- Source: this project.
 use Rattle.std.specs.Prelude.{◌≡◌, ◌==◌, ℕ, Bool, true, false, List, [], ◌∷◌, ◌++◌, Option, None, Result, Ok, Err, if◌then◌else◌}
-use Rattle.osm_gate.specs.Connections.{RespondsWithin}
+use Rattle.osm_gate.specs.Connections.{RespondsOn}
+use Rattle.osm_gate.specs.Terms.{Terms, within}
 use Rattle.osm_desk.specs.Desks.{Desk, Told, step}
 use Rattle.osm_desk.specs.Happenings.{Happening}
-use Rattle.osm_desk.specs.Stepping.{GivesWithin}
+use Rattle.osm_desk.specs.Stepping.{GivesOn}
 use Rattle.osm_desk.specs.declared.desk_fault.DeskFault.{DeskFault}
 use Rattle.osm_desk.specs.declared.desk_fault.DeskFault.TheVariants.{AlreadyOpen, Memory, NoRoom, NotOpen, Refused}
 
@@ -24,13 +25,17 @@ stands Memory = false
 abbrev pub IsRefusedBy : Desk → Happening → DeskFault → Type 0
 IsRefusedBy d h fault = stands fault ≡ true → (step d h).reply ≡ Err fault
 
--- each answer is one that a step may give, where there may be a budget for each query, and a refusal changes nothing
-abbrev pub RanWithin : Option ℕ → Desk → List Done → Type 0
-RanWithin most d [] = Unit {0}
-RanWithin most d ((h, Ok answers) ∷ more) = GivesWithin most (step d h).reply answers × RanWithin most (step d h).desk more
-RanWithin most d ((h, Err fault) ∷ more) = IsRefusedBy d h fault × RanWithin most d more
+-- each answer is one that a step may give on these terms, and a refusal changes nothing
+abbrev pub RanOn : Terms → Desk → List Done → Type 0
+RanOn terms d [] = Unit {0}
+RanOn terms d ((h, Ok answers) ∷ more) = GivesOn terms (step d h).reply answers × RanOn terms (step d h).desk more
+RanOn terms d ((h, Err fault) ∷ more) = IsRefusedBy d h fault × RanOn terms d more
 
--- the same without a budget
+-- the same where nodes are held in memory, and there may be a budget for each query,
+abbrev pub RanWithin : Option ℕ → Desk → List Done → Type 0
+RanWithin most d run = RanOn (within most) d run
+
+-- and where there is none
 abbrev pub Ran : Desk → List Done → Type 0
 Ran d run = RanWithin None d run
 
@@ -50,13 +55,17 @@ got c [] = []
 got c ((h, Ok answers) ∷ more) = texts_in c answers ++ got c more
 got c ((h, Err fault) ∷ more) = got c more
 
--- text by text the responses to what is told, where there may be a budget for each query
-abbrev pub RespondAllWithin : Option ℕ → List Told → List (List ℕ) → Type 0
-RespondAllWithin most [] [] = Unit {0}
-RespondAllWithin most [] (text ∷ texts) = ⊥
-RespondAllWithin most (t ∷ ts) [] = ⊥
-RespondAllWithin most (t ∷ ts) (text ∷ texts) = RespondsWithin most t.publication t.requests text × RespondAllWithin most ts texts
+-- text by text the responses to what is told, on these terms
+abbrev pub RespondAllOn : Terms → List Told → List (List ℕ) → Type 0
+RespondAllOn terms [] [] = Unit {0}
+RespondAllOn terms [] (text ∷ texts) = ⊥
+RespondAllOn terms (t ∷ ts) [] = ⊥
+RespondAllOn terms (t ∷ ts) (text ∷ texts) = RespondsOn terms t.publication t.requests text × RespondAllOn terms ts texts
 
--- the same without a budget
+-- the same where nodes are held in memory, and there may be a budget for each query,
+abbrev pub RespondAllWithin : Option ℕ → List Told → List (List ℕ) → Type 0
+RespondAllWithin most ts texts = RespondAllOn (within most) ts texts
+
+-- and where there is none
 abbrev pub RespondAll : List Told → List (List ℕ) → Type 0
 RespondAll ts texts = RespondAllWithin None ts texts

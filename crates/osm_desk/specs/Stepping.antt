@@ -1,9 +1,12 @@
 -- What a step of the code may answer.
 -- Source: this project.
 use Rattle.std.specs.Global.{Vec}
-use Rattle.std.specs.Prelude.{◌≡◌, ℕ, List, [], ◌∷◌, map, Option, None, Result, Ok, Err, IsOk}
-use Rattle.osm_gate.specs.Connections.{RespondsWithin}
+use Rattle.std.specs.Prelude.{◌≡◌, ℕ, List, [], ◌∷◌, map, None, Result, Ok, Err, IsOk}
+use Rattle.osm_gate.specs.Connections.{RespondsOn}
+use Rattle.osm_gate.specs.Terms.{Terms, within}
 use Rattle.osm_index.specs.Applying.{IsLast}
+use Rattle.osm_index.specs.Snapshots.{HoldsPublication}
+use Rattle.osm_index.specs.declared.snapshot.Snapshot.{Snapshot}
 use Rattle.osm_keys.specs.Publications.{Publication}
 use Rattle.osm_desk.specs.Contents.{Contents, StandsFor}
 use Rattle.osm_desk.specs.Desks.{Desk, Told, step}
@@ -25,27 +28,27 @@ IsOf p (Publish changes) h = (made : Result Publication _) × IsMade p changes.i
 abbrev pub texts_of : List (ℕ × Vec ℕ) → List (ℕ × List ℕ)
 texts_of answers = map (λ (answer : ℕ × Vec ℕ). (answer.0, answer.1.items)) answers
 
--- pair by pair the number, and the responses to what is told, where there may be a budget for each query
-abbrev pub RespondEachWithin : Option ℕ → List (ℕ × Told) → List (ℕ × List ℕ) → Type 0
-RespondEachWithin most [] [] = Unit {0}
-RespondEachWithin most [] (a ∷ answers) = ⊥
-RespondEachWithin most (t ∷ ts) [] = ⊥
-RespondEachWithin most (t ∷ ts) (a ∷ answers) =
-    (a.0 ≡ t.0) × RespondsWithin most t.1.publication t.1.requests a.1 × RespondEachWithin most ts answers
+-- pair by pair the number, and the responses to what is told, on these terms
+abbrev pub RespondEachOn : Terms → List (ℕ × Told) → List (ℕ × List ℕ) → Type 0
+RespondEachOn terms [] [] = Unit {0}
+RespondEachOn terms [] (a ∷ answers) = ⊥
+RespondEachOn terms (t ∷ ts) [] = ⊥
+RespondEachOn terms (t ∷ ts) (a ∷ answers) =
+    (a.0 ≡ t.0) × RespondsOn terms t.1.publication t.1.requests a.1 × RespondEachOn terms ts answers
 
 -- the step isn't refused, and these are the answers to what it tells
-abbrev pub GivesWithin : Option ℕ → Result (List (ℕ × Told)) DeskFault → List (ℕ × List ℕ) → Type 0
-GivesWithin most (Err fault) answers = ⊥
-GivesWithin most (Ok told) answers = RespondEachWithin most told answers
+abbrev pub GivesOn : Terms → Result (List (ℕ × Told)) DeskFault → List (ℕ × List ℕ) → Type 0
+GivesOn terms (Err fault) answers = ⊥
+GivesOn terms (Ok told) answers = RespondEachOn terms told answers
 
--- the same without a budget
+-- the same where nodes are held in memory, and there is no budget
 abbrev pub Gives : Result (List (ℕ × Told)) DeskFault → List (ℕ × List ℕ) → Type 0
-Gives reply answers = GivesWithin None reply answers
+Gives reply answers = GivesOn (within None) reply answers
 
 -- the event is a happening whose step gives the answers, and leaves a desk that the contents stand for
-abbrev pub HasStepped : Desk → Event → List (ℕ × List ℕ) → Contents → Type 0
+abbrev pub HasStepped : Desk → Event → List (ℕ × List ℕ) → Contents Snapshot → Type 0
 HasStepped d event answers contents =
-    (h : Happening) × IsOf d.publication event h × Gives (step d h).reply answers × StandsFor contents (step d h).desk
+    (h : Happening) × IsOf d.publication event h × Gives (step d h).reply answers × StandsFor HoldsPublication contents (step d h).desk
 
 -- memory may run out: never at an end, and never in place of another refusal of an opening or of a piece
 abbrev pub MayRunOut : Desk → Event → Type 0
@@ -67,8 +70,8 @@ IsRefusal d event (Refused fault) = RefusesStep d event (Refused fault)
 IsRefusal d event Memory = MayRunOut d event
 
 -- an event of a connection leaves the snapshot, and a publication the connections
-abbrev pub LeavesRest : Event → Contents → Contents → Type 0
-LeavesRest (Open n) old new = new.snapshot ≡ old.snapshot
-LeavesRest (Arrive n piece) old new = new.snapshot ≡ old.snapshot
-LeavesRest (End n) old new = new.snapshot ≡ old.snapshot
+abbrev pub LeavesRest : Event → Contents Snapshot → Contents Snapshot → Type 0
+LeavesRest (Open n) old new = new.mirror ≡ old.mirror
+LeavesRest (Arrive n piece) old new = new.mirror ≡ old.mirror
+LeavesRest (End n) old new = new.mirror ≡ old.mirror
 LeavesRest (Publish changes) old new = new.connections ≡ old.connections

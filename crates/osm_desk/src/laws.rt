@@ -6,16 +6,18 @@ ghost use Rattle.std.specs.Prelude.{◌≡◌, ◌↔◌, ℕ, List, Option, Som
 ghost use Rattle.opl_codec.specs.declared.change.Change.{Change};
 ghost use Rattle.http_messages.specs.Requests.{Asked};
 ghost use Rattle.http_messages.specs.ResponseTexts.{Response};
-ghost use Rattle.osm_gate.specs.Responses.{IsResponse, IsResponseWithin};
+ghost use Rattle.osm_gate.specs.Responses.{IsResponse, IsResponseOn, IsResponseWithin};
+ghost use Rattle.osm_gate.specs.Terms.{Terms};
 ghost use Rattle.osm_keys.specs.Publications.{Publication, root_of};
 ghost use Rattle.osm_index.specs.Snapshots.{HoldsPublication};
 ghost use Rattle.osm_index.specs.declared.apply_fault.ApplyFault.{ApplyFault};
+ghost use Rattle.osm_index.specs.declared.snapshot.Snapshot.{Snapshot};
 ghost use Rattle.osm_desk.specs.Contents.{Contents};
 ghost use Rattle.osm_desk.specs.Desks.{fresh, replies};
 ghost use Rattle.osm_desk.specs.Events.{AreTurns, HasRoom, IsTold, Turn, events_of, own_events, texts_to};
 ghost use Rattle.osm_desk.specs.Happenings.{Happening};
 ghost use Rattle.osm_desk.specs.Made.{IsMade};
-ghost use Rattle.osm_desk.specs.Runs.{Done, Ran, RanWithin, RespondAll, RespondAllWithin, got, stood};
+ghost use Rattle.osm_desk.specs.Runs.{Done, Ran, RanOn, RanWithin, RespondAll, RespondAllOn, RespondAllWithin, got, stood};
 ghost use Rattle.osm_desk.specs.Told.{FindsRoom, alone, given, told};
 ghost use Rattle.osm_desk.specs.declared.event.Event.{Event};
 ghost use Rattle.osm_desk.specs.declared.limits.TheConstants.{CONNECTION_LIMIT};
@@ -25,8 +27,8 @@ ghost use Rattle.osm_desk.specs.declared.limits.TheConstants.{CONNECTION_LIMIT};
 /// have made. Each turn is what clause `turn` of [`crate::Desk::step`] says of one event; events that were refused out of
 /// memory are left out. That holds where the connection never is opened while 64 others are open.
 pub fn events_tell_each_its_own()
-    ensures told { (c : ℕ) (before : Contents) (turns : List Turn) (p : Publication)
-        → before.connections ≡ empty → HoldsPublication before.snapshot p
+    ensures told { (c : ℕ) (before : Contents Snapshot) (turns : List Turn) (p : Publication)
+        → before.connections ≡ empty → HoldsPublication before.mirror p
         → AreTurns before turns → HasRoom c before turns
         → IsTold c (events_of turns) p (texts_to c turns) }
     // The events of the other connections have no part in it.
@@ -62,6 +64,10 @@ pub fn runs_tell_each_its_own()
     ensures within { (most : Option ℕ) (c : ℕ) (run : List Done) (p : Publication)
         → RanWithin most (fresh p) run → FindsRoom c (fresh p) (stood run)
         → RespondAllWithin most (told c (stood run) p) (got c run) }
+    // And on any terms.
+    ensures on_terms { (terms : Terms) (c : ℕ) (run : List Done) (p : Publication)
+        → RanOn terms (fresh p) run → FindsRoom c (fresh p) (stood run)
+        → RespondAllOn terms (told c (stood run) p) (got c run) }
 {}
 
 /// A law: a response of status 200 carries the root of the publication that it is over.
@@ -71,6 +77,10 @@ pub fn success_carries_the_root()
     // The same where each query has a budget.
     ensures within { (most : Option ℕ) (p : Publication) (a : Asked) (r : Response)
         → IsResponseWithin most p a r → r.head.status ≡ 200
+        → r.head.root ≡ Some (root_of p) }
+    // And on any terms.
+    ensures on_terms { (terms : Terms) (p : Publication) (a : Asked) (r : Response)
+        → IsResponseOn terms p a r → r.head.status ≡ 200
         → r.head.root ≡ Some (root_of p) }
 {}
 

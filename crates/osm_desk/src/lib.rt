@@ -1,4 +1,4 @@
-//! A desk: the connections that are open over one snapshot, which publications change.
+//! A desk: the connections that are open over one mirror. Over a snapshot, publications change it.
 //!
 //! A [`Desk`] takes one event after the other: a connection is opened, a piece of its bytes arrives, it ends, or changes
 //! are published. Each connection gets what it would get alone: the laws say so over what happens, whatever the others
@@ -12,6 +12,7 @@ mod event;
 mod laws;
 mod limits;
 mod lookout;
+mod no_lookout;
 mod open_connection;
 mod serving;
 
@@ -24,3 +25,4 @@ pub use laws::{
 };
 pub use limits::CONNECTION_LIMIT;
 pub use lookout::Lookout;
+pub use no_lookout::NoLookout;

@@ -2,12 +2,13 @@
 
 use crate::desk::Desk;
 use osm_gate::Connection;
+use osm_index::Snapshot;
 use std::alloc::AllocError;
 
 /// The connection of this number of a desk. If it isn't open, it takes nothing, as a closed one.
 #[derive(Drop)]
 pub(crate) struct OpenConnection<'a> {
-    pub(crate) desk: &'a mut Desk,
+    pub(crate) desk: &'a mut Desk<Snapshot>,
     pub(crate) number: u32,
 }
 
@@ -15,13 +16,13 @@ impl<'a> Connection for OpenConnection<'a> {
     ghost use Rattle.std.specs.Prelude.{◌≡◌};
     ghost use Rattle.std.proofs.Common.{◌∙◌, ap, refl, subst, sym};
     ghost use Rattle.osm_index.specs.Snapshots.{HoldsPublication};
-    ghost use Rattle.osm_index.specs.declared.snapshot.Snapshot.{Snapshot};
+    ghost use Rattle.osm_index.specs.declared.snapshot.Snapshot.{Snapshot as Held};
     ghost use Rattle.osm_desk.specs.Contents.{Contents};
     ghost use Rattle.osm_desk.specs.OneConnection.{rest_of, without};
 
     ghost rest = { λ s. rest_of s.desk.now s.number };
 
-    ghost over = { λ s p. HoldsPublication s.desk.now.snapshot p };
+    ghost over = { λ s p. HoldsPublication s.desk.now.mirror p };
 
     ghost later = { λ s t. (t.number ≡ s.number) × (t.desk.ghost_name ≡ s.desk.ghost_name) × (without t.desk.now s.number ≡ without s.desk.now s.number) };
 
@@ -41,6 +42,6 @@ impl<'a> Connection for OpenConnection<'a> {
       ap (without u.desk.now) (sym first.0) ∙ second.2 ∙ ap (without t.desk.now) first.0 ∙ first.2,
     ) };
 
-    ghost same_over = { λ s t p same held. subst (λ (snapshot : Snapshot). HoldsPublication snapshot p)
-        (sym (ap (λ (d : Contents). d.snapshot) same.2)) held };
+    ghost same_over = { λ s t p same held. subst (λ (snapshot : Held). HoldsPublication snapshot p)
+        (sym (ap (λ (d : Contents Held). d.mirror) same.2)) held };
 }

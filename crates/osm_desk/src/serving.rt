@@ -10,9 +10,10 @@ ghost use Rattle.osm_desk.specs.declared.limits.TheConstants.{CONNECTION_LIMIT};
 use crate::desk::Desk;
 use crate::open_connection::OpenConnection;
 use osm_gate::{GateFault, send_out_of_memory, serve_connection};
+use osm_index::Snapshot;
 use std::io::{Read, Write};
 
-impl Desk {
+impl Desk<Snapshot> {
     /// Responds to the requests of a new connection of this number, until its input ends or the connection does, as
     /// [`osm_gate::serve`] does over the desk's snapshot. The number has to be free, and fewer than 64 connections open.
     /// Afterwards, after a refusal too, the connection is forgotten and the desk as before. The program serves by
@@ -31,7 +32,7 @@ impl Desk {
         requires free { get self.old.connections number ≡ None }
         requires room { len self.old.connections < CONNECTION_LIMIT }
         // What was read, piece by piece, and what was written, whichever way it ended.
-        ensures ended { (p : Publication) → HoldsPublication self.old.snapshot p
+        ensures ended { (p : Publication) → HoldsPublication self.old.mirror p
             → HasEnded p (record {
               unread = R.remaining reader.old;
               left = R.remaining reader.new;
@@ -39,7 +40,7 @@ impl Desk {
               after = W.contents writer.new;
             }) result }
         // So what was written responds to the whole input, where nothing broke off.
-        ensures done { (p : Publication) → HoldsPublication self.old.snapshot p
+        ensures done { (p : Publication) → HoldsPublication self.old.mirror p
             → OnOk result (HasServed p
             (record {
               unread = R.remaining reader.old;

@@ -49,7 +49,7 @@ fn snapshot_of(alloc: Global, set: &str, sequence: u64) -> Result<Snapshot, Fail
 }
 
 /// A desk over the set of this text at sequence 0.
-fn desk_of(alloc: Global, set: &str) -> Result<Desk, Fail> {
+fn desk_of(alloc: Global, set: &str) -> Result<Desk<Snapshot>, Fail> {
     Ok(Desk::new(alloc, snapshot_of(alloc, set, 0)?))
 }
 
@@ -64,12 +64,12 @@ fn publication(alloc: Global, changes: &str) -> Result<Event, Fail> {
 }
 
 /// Takes an event. It has no clauses, so that the proofs of the tests carry none of those of a step.
-fn step(desk: &mut Desk, event: Event) -> Result<Vec<(u32, Vec<u8>)>, DeskFault> {
+fn step(desk: &mut Desk<Snapshot>, event: Event) -> Result<Vec<(u32, Vec<u8>)>, DeskFault> {
     desk.step(event)
 }
 
 /// Whether an event gives these bytes to this connection, and nothing else.
-fn gives(desk: &mut Desk, event: Event, number: u32, bytes: &[u8]) -> bool {
+fn gives(desk: &mut Desk<Snapshot>, event: Event, number: u32, bytes: &[u8]) -> bool {
     match step(desk, event) {
         Ok(answers) => match answers.first() {
             Some((to, responses)) => {
@@ -82,7 +82,7 @@ fn gives(desk: &mut Desk, event: Event, number: u32, bytes: &[u8]) -> bool {
 }
 
 /// Whether an event gives nothing.
-fn gives_nothing(desk: &mut Desk, event: Event) -> bool {
+fn gives_nothing(desk: &mut Desk<Snapshot>, event: Event) -> bool {
     match step(desk, event) {
         Ok(answers) => answers.is_empty(),
         Err(_) => false,
@@ -90,14 +90,14 @@ fn gives_nothing(desk: &mut Desk, event: Event) -> bool {
 }
 
 /// Why an event is refused, if it is.
-fn refusal_of(desk: &mut Desk, event: Event) -> Option<DeskFault> {
+fn refusal_of(desk: &mut Desk<Snapshot>, event: Event) -> Option<DeskFault> {
     step(desk, event).err()
 }
 
 /// Whether a connection takes a piece, and gets these bytes.
 fn hears(
     alloc: Global,
-    desk: &mut Desk,
+    desk: &mut Desk<Snapshot>,
     number: u32,
     piece: &[u8],
     bytes: &[u8],
@@ -107,7 +107,7 @@ fn hears(
 }
 
 /// Whether changes are published.
-fn publishes(alloc: Global, desk: &mut Desk, changes: &str) -> Result<bool, Fail> {
+fn publishes(alloc: Global, desk: &mut Desk<Snapshot>, changes: &str) -> Result<bool, Fail> {
     let event = publication(alloc, changes)?;
     Ok(gives_nothing(desk, event))
 }

@@ -18,7 +18,7 @@ pub left_in_force : (root_line : RootLine) (old new : Snapshot) (p : Publication
 left_in_force root_line old new p same held = (p, still_held old new p same held, inl refl)
 
 -- what is published where a root line is looked at is published
-pub published_under : (root_line : RootLine) (new : Snapshot) (p : Publication) → HasPublishedUnder root_line p new → HasPublished p new
+pub published_under : (root_line : RootLine) (new : Snapshot) (p : Publication) → HasPublishedUnder root_line p new → HasPublished p (HoldsPublication new)
 published_under root_line new p (q, held, inl same) = (q, held, inl same)
 published_under root_line new p (q, held, inr (file, changes, holds, made, keeps)) = (q, held, inr (file, changes, holds, made, keeps.announced))
 
@@ -31,7 +31,7 @@ pub under_watched : (C : Type 0) (source : C) (root_line : RootLine) (watch : Wa
 under_watched C source root_line watch new p is published = subst (λ (w : Watch C). HasPublishedUnder w.root_line p new) is published
 
 -- one connection more, and what came before it
-pub reached_more : (n : ℕ) (p m : Publication) (new : Snapshot) → IsReachedBy n p m → HasPublished m new
+pub reached_more : (n : ℕ) (p m : Publication) (new : Snapshot) → IsReachedBy n p m → HasPublished m (HoldsPublication new)
     → (q : Publication) × HoldsPublication new q × IsReachedBy (suc n) p q
 reached_more n p m new reached (q, held, inl same) = (q, held, inl (subst (IsReachedBy n p) (sym same) reached))
 reached_more n p m new reached (q, held, inr published) = (q, held, inr (m, reached, published))
@@ -56,15 +56,15 @@ pub reached_end : (n m : ℕ) (p : Publication) (now : Snapshot) → n ≤ m
 reached_end n m p now few (q, held, by) = (q, held, reached_most n m p q few by)
 
 -- one connection more: a desk that is as after the change file
-pub reached_next : (n : ℕ) (p : Publication) (old mid new : Contents)
-    → ((q : Publication) × HoldsPublication old.snapshot q × IsReachedBy n p q)
-    → ((m : Publication) → HoldsPublication old.snapshot m → HasPublished m mid.snapshot)
+pub reached_next : (n : ℕ) (p : Publication) (old mid new : Contents Snapshot)
+    → ((q : Publication) × HoldsPublication old.mirror q × IsReachedBy n p q)
+    → ((m : Publication) → HoldsPublication old.mirror m → HasPublished m (HoldsPublication mid.mirror))
     → new ≡ mid
-    → (q : Publication) × HoldsPublication new.snapshot q × IsReachedBy (n + 1) p q
+    → (q : Publication) × HoldsPublication new.mirror q × IsReachedBy (n + 1) p q
 reached_next n p old mid new (m, held, by) published same =
     let step : suc n ≡ n + 1 = omega arith in
-    let (q, now, reached) = reached_more n p m mid.snapshot by (published m held) in
-    (q, subst (λ (d : Contents). HoldsPublication d.snapshot q) (sym same) now, subst (λ (j : ℕ). IsReachedBy j p q) step reached)
+    let (q, now, reached) = reached_more n p m mid.mirror by (published m held) in
+    (q, subst (λ (d : Contents Snapshot). HoldsPublication d.mirror q) (sym same) now, subst (λ (j : ℕ). IsReachedBy j p q) step reached)
 
 -- one question more at most
 asked_cases : (e : Edition) (xs : List ℕ) → (asked_after e xs ≡ xs) ⊎ ((k : ℕ) × (asked_after e xs ≡ k ∷ xs))

@@ -159,7 +159,7 @@ pub one_found : (root_line : RootLine) (told now : Option (List FoundFile)) (old
     → OnErr result (IsAsBefore old new)
     → IfSome told (λ before. (found : FoundFile) × (now ≡ Some (found ∷ before))
     × ((p : Publication) → HoldsPublication old p → MatchResult result (λ _. HasTaken found p new) (ExplainsFound root_line found p)))
-    → TakesFound told now old new
+    → TakesFound told now (HoldsPublication old) (HoldsPublication new)
 one_found root_line None now old new result unchanged finds = tt
 one_found root_line (Some before) now old new (Ok done) unchanged (found, is, takes) = (
   found ∷ [],

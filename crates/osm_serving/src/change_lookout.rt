@@ -11,6 +11,7 @@ use crate::changes_fault::ChangesFault;
 use crate::publish_next::publish_found;
 use crate::root_line::RootLine;
 use osm_desk::{Desk, Lookout};
+use osm_index::Snapshot;
 use std::alloc::Global;
 use std::io::Write;
 use std::marker::Model;
@@ -61,21 +62,21 @@ impl<C: ChangeSource> ChangeLookout<C> {
     }
 }
 
-impl<C: ChangeSource> Lookout for ChangeLookout<C> {
+impl<C: ChangeSource> Lookout<Snapshot> for ChangeLookout<C> {
     ghost found = { λ s. C.found s.source };
 
     /// Asks the source once for the change file of the next sequence number, and publishes its changes where it is there.
     /// A file that is refused changes nothing, and is told in one line of `errors`, but once as long as it is refused for
     /// the same reason each time. The source is told of a file that is refused for what it says. Where the sequence is at its
     /// greatest, and in the first edition, which has none, the source isn't asked.
-    fn look<E: Write>(&mut self, desk: &mut Desk, errors: &mut E)
-        ensures in_force { (p : Publication) → HoldsPublication desk.old.snapshot p
-            → HasPublished p desk.new.snapshot }
+    fn look<E: Write>(&mut self, desk: &mut Desk<Snapshot>, errors: &mut E)
+        ensures in_force { (p : Publication) → HoldsPublication desk.old.mirror p
+            → HasPublished p (HoldsPublication desk.new.mirror) }
         // What is in force then has the root that the file announces, and where it has to announce one, it does.
-        ensures root_line { (p : Publication) → HoldsPublication desk.old.snapshot p
-            → HasPublishedUnder self.old.root_line p desk.new.snapshot }
+        ensures root_line { (p : Publication) → HoldsPublication desk.old.mirror p
+            → HasPublishedUnder self.old.root_line p desk.new.mirror }
         ensures found { TakesFound (C.found self.old.source) (C.found self.new.source)
-            desk.old.snapshot desk.new.snapshot }
+            (HoldsPublication desk.old.mirror) (HoldsPublication desk.new.mirror) }
         ensures connections { desk.new.connections ≡ desk.old.connections }
         ensures kept { self.new.root_line ≡ self.old.root_line }
     {

@@ -13,6 +13,7 @@ use crate::changes_fault::ChangesFault;
 use crate::root_line::RootLine;
 use opl_codec::{ChangeFile, read_change_file};
 use osm_desk::Desk;
+use osm_index::Snapshot;
 use std::alloc::Global;
 use std::io::Read;
 
@@ -34,25 +35,25 @@ use std::io::Read;
 /// Clauses that speak of the file's bytes do so where the reader tells them.
 pub fn publish_changes<R: Read>(
     alloc: Global,
-    desk: &mut Desk,
+    desk: &mut Desk<Snapshot>,
     file: &mut R,
     root_line: RootLine,
 ) -> Result<(), ChangesFault>
     // In force is what the changes that the file holds make of what was, with the root that the file announces.
-    ensures published { (p : Publication) → HoldsPublication desk.old.snapshot p
-        → OnOk result (HasMade root_line (R.remaining file.old) p desk.new.snapshot) }
+    ensures published { (p : Publication) → HoldsPublication desk.old.mirror p
+        → OnOk result (HasMade root_line (R.remaining file.old) p desk.new.mirror) }
     // Changes that a file holds are published, unless they are refused or give another root, or memory or a device fails.
-    ensures only { (p : Publication) → HoldsPublication desk.old.snapshot p
+    ensures only { (p : Publication) → HoldsPublication desk.old.mirror p
         → IfSome (R.remaining file.old) (λ text. (changes : List ChangeWord)
         → HoldsChanges text changes
-        → MatchResult result (λ _. HasMadeOf root_line text changes p desk.new.snapshot)
+        → MatchResult result (λ _. HasMadeOf root_line text changes p desk.new.mirror)
         (IsOutsideOrRefused root_line text p changes)) }
     // Which fault it is.
-    ensures refused { (p : Publication) → HoldsPublication desk.old.snapshot p
+    ensures refused { (p : Publication) → HoldsPublication desk.old.mirror p
         → IfErr result
         (ExplainsChanges root_line (R.remaining file.old) (R.remaining file.new) p) }
     // A refusal changes nothing in force,
-    ensures unchanged { OnErr result (IsAsBefore desk.old.snapshot desk.new.snapshot) }
+    ensures unchanged { OnErr result (IsAsBefore desk.old.mirror desk.new.mirror) }
     // and connections stay, whatever happens.
     ensures connections { desk.new.connections ≡ desk.old.connections }
 {
@@ -61,13 +62,17 @@ pub fn publish_changes<R: Read>(
 }
 
 /// Publishes the changes that were read of a file, where they give the root that it announces.
-fn publish_read(desk: &mut Desk, read: &ChangeFile, root_line: RootLine) -> Result<(), ChangesFault>
-    ensures made { (p : Publication) → HoldsPublication desk.old.snapshot p
-        → OnOk result ((q : Publication) × HoldsPublication desk.new.snapshot q
+fn publish_read(
+    desk: &mut Desk<Snapshot>,
+    read: &ChangeFile,
+    root_line: RootLine,
+) -> Result<(), ChangesFault>
+    ensures made { (p : Publication) → HoldsPublication desk.old.mirror p
+        → OnOk result ((q : Publication) × HoldsPublication desk.new.mirror q
         × IsMade p read.now.changes.items (Ok q) × KeepsComment root_line (comment_of read.now) q) }
-    ensures refused { (p : Publication) → HoldsPublication desk.old.snapshot p
+    ensures refused { (p : Publication) → HoldsPublication desk.old.mirror p
         → IfErr result (RefusesRead root_line read.now p) }
-    ensures unchanged { OnErr result (IsAsBefore desk.old.snapshot desk.new.snapshot) }
+    ensures unchanged { OnErr result (IsAsBefore desk.old.mirror desk.new.mirror) }
     ensures connections { desk.new.connections ≡ desk.old.connections }
 {
     match root_to_give(read, root_line) {

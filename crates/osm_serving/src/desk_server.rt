@@ -13,6 +13,7 @@ use crate::publish_next::publish_next;
 use crate::root_line::RootLine;
 use osm_commands::CommandFault;
 use osm_desk::Desk;
+use osm_index::Snapshot;
 use std::alloc::Global;
 use std::io::Write;
 
@@ -28,7 +29,7 @@ use std::io::Write;
 /// `Device` or `Memory` where the listener has no further connection; fewer were taken then.
 pub fn serve_desk<L: Listener, C: ChangeSource, E: Write>(
     alloc: Global,
-    desk: &mut Desk,
+    desk: &mut Desk<Snapshot>,
     source: &mut C,
     listener: &mut L,
     connections: u32,
@@ -44,14 +45,14 @@ pub fn serve_desk<L: Listener, C: ChangeSource, E: Write>(
     ensures outside { IfErr result (λ fault. (fault ≡ CommandFault.Memory)
         ⊎ (fault ≡ CommandFault.Device)) }
     // What is in force has been made of what was by one change file after the other, at most one a connection.
-    ensures reached { (p : Publication) → HoldsPublication desk.old.snapshot p
-        → (q : Publication) × HoldsPublication desk.new.snapshot q × IsReachedBy connections p q }
+    ensures reached { (p : Publication) → HoldsPublication desk.old.mirror p
+        → (q : Publication) × HoldsPublication desk.new.mirror q × IsReachedBy connections p q }
     // The source was asked at most once a connection.
     ensures asked { IfSome (C.asked source.old) (λ before. (more : List ℕ)
         × (C.asked source.new ≡ Some (more ++ before)) × (length more ≤ connections)) }
     // It has been made by the files that the source gave, one after the other, but those that were refused.
-    ensures found { TakesFound (C.found source.old)
-        (C.found source.new) desk.old.snapshot desk.new.snapshot }
+    ensures found { TakesFound (C.found source.old) (C.found source.new)
+        (HoldsPublication desk.old.mirror) (HoldsPublication desk.new.mirror) }
     // No connection is open.
     ensures none_open { desk.new.connections ≡ empty }
 {

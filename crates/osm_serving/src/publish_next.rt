@@ -11,26 +11,26 @@ use crate::changes_fault::ChangesFault;
 use crate::changes_publisher::publish_changes;
 use crate::root_line::RootLine;
 use osm_desk::Desk;
-use osm_index::Edition;
+use osm_index::{Edition, Snapshot};
 use std::alloc::Global;
 use std::io::Write;
 
 /// Publishes the next change file, as `publish_found` does. A file that is refused is told in one line of `errors`.
 pub(crate) fn publish_next<C: ChangeSource, E: Write>(
     alloc: Global,
-    desk: &mut Desk,
+    desk: &mut Desk<Snapshot>,
     source: &mut C,
     root_line: RootLine,
     errors: &mut E,
 )
     ensures asked { IfSome (C.asked source.old) (λ before.
-        C.asked source.new ≡ Some (asked_after desk.old.snapshot.edition before)) }
+        C.asked source.new ≡ Some (asked_after desk.old.mirror.edition before)) }
     // What is in force is as before, or what changes that a file holds make of it:
-    ensures in_force { (p : Publication) → HoldsPublication desk.old.snapshot p
-        → HasPublishedUnder root_line p desk.new.snapshot }
+    ensures in_force { (p : Publication) → HoldsPublication desk.old.mirror p
+        → HasPublishedUnder root_line p desk.new.mirror }
     // those of the file that the source gave.
-    ensures found { TakesFound (C.found source.old)
-        (C.found source.new) desk.old.snapshot desk.new.snapshot }
+    ensures found { TakesFound (C.found source.old) (C.found source.new)
+        (HoldsPublication desk.old.mirror) (HoldsPublication desk.new.mirror) }
     ensures connections { desk.new.connections ≡ desk.old.connections }
 {
     if let Err(fault) = publish_found(alloc, desk, source, root_line) {
@@ -44,16 +44,16 @@ pub(crate) fn publish_next<C: ChangeSource, E: Write>(
 /// in the first edition, which has none, the source isn't asked.
 pub(crate) fn publish_found<C: ChangeSource>(
     alloc: Global,
-    desk: &mut Desk,
+    desk: &mut Desk<Snapshot>,
     source: &mut C,
     root_line: RootLine,
 ) -> Result<(), ChangesFault>
     ensures asked { IfSome (C.asked source.old) (λ before.
-        C.asked source.new ≡ Some (asked_after desk.old.snapshot.edition before)) }
-    ensures in_force { (p : Publication) → HoldsPublication desk.old.snapshot p
-        → HasPublishedUnder root_line p desk.new.snapshot }
-    ensures found { TakesFound (C.found source.old)
-        (C.found source.new) desk.old.snapshot desk.new.snapshot }
+        C.asked source.new ≡ Some (asked_after desk.old.mirror.edition before)) }
+    ensures in_force { (p : Publication) → HoldsPublication desk.old.mirror p
+        → HasPublishedUnder root_line p desk.new.mirror }
+    ensures found { TakesFound (C.found source.old) (C.found source.new)
+        (HoldsPublication desk.old.mirror) (HoldsPublication desk.new.mirror) }
     ensures connections { desk.new.connections ≡ desk.old.connections }
 {
     let Some(sequence) = next_sequence(desk.snapshot().edition()) else {
@@ -65,21 +65,21 @@ pub(crate) fn publish_found<C: ChangeSource>(
 /// Publishes the changes of the file with this sequence number, where it is there.
 fn publish_file<C: ChangeSource>(
     alloc: Global,
-    desk: &mut Desk,
+    desk: &mut Desk<Snapshot>,
     source: &mut C,
     sequence: u64,
     root_line: RootLine,
 ) -> Result<(), ChangesFault>
     ensures asked { IfSome (C.asked source.old) (λ before.
         C.asked source.new ≡ Some (sequence ∷ before)) }
-    ensures in_force { (p : Publication) → HoldsPublication desk.old.snapshot p
-        → HasPublishedUnder root_line p desk.new.snapshot }
+    ensures in_force { (p : Publication) → HoldsPublication desk.old.mirror p
+        → HasPublishedUnder root_line p desk.new.mirror }
     // The changes of the file that the source gave are published, where it gave one, or it is told why not.
     ensures found { IfSome (C.found source.old) (λ before. (found : FoundFile)
         × (C.found source.new ≡ Some (found ∷ before))
-        × ((p : Publication) → HoldsPublication desk.old.snapshot p
-        → MatchResult result (λ _. HasTaken found p desk.new.snapshot) (ExplainsFound root_line found p))) }
-    ensures unchanged { OnErr result (IsAsBefore desk.old.snapshot desk.new.snapshot) }
+        × ((p : Publication) → HoldsPublication desk.old.mirror p
+        → MatchResult result (λ _. HasTaken found p desk.new.mirror) (ExplainsFound root_line found p))) }
+    ensures unchanged { OnErr result (IsAsBefore desk.old.mirror desk.new.mirror) }
     ensures connections { desk.new.connections ≡ desk.old.connections }
 {
     let Some(mut file) = source.change_file(sequence)? else {

@@ -1,17 +1,18 @@
 -- What was done before the last deeds is what a server did, too.
-use Rattle.std.proofs.Common.{ℕ, true, false, List, [], ◌∷◌, ◌++◌}
-use Rattle.std.specs.Prelude.{Option, Ok, Err}
+use Rattle.std.proofs.Common.{true, false, List, [], ◌∷◌, ◌++◌}
+use Rattle.std.specs.Prelude.{Ok, Err}
+use Rattle.osm_gate.specs.Terms.{Terms}
 use Rattle.osm_desk.specs.Desks.{Desk}
 use Rattle.osm_desk.specs.Happenings.{arrived, ended, opened, published}
 use Rattle.osm_traffic.specs.Deeds.{Deed, HasRoom, IsHushed, IsPaced, Runs, handed, lost, parted, stepped, waited}
 
-runs_one : (most : Option ℕ) (d : Desk) (deed : Deed) (before : List Deed) → Runs most d (deed ∷ before) → Runs most d before
-runs_one most d (stepped h (Ok answers)) before is = is.1
-runs_one most d (stepped h (Err fault)) before is = is.1
-runs_one most d (handed n bytes) before is = is
-runs_one most d (parted n whole) before is = is
-runs_one most d (lost n) before is = is
-runs_one most d (waited room) before is = is
+runs_one : (terms : Terms) (d : Desk) (deed : Deed) (before : List Deed) → Runs terms d (deed ∷ before) → Runs terms d before
+runs_one terms d (stepped h (Ok answers)) before is = is.1
+runs_one terms d (stepped h (Err fault)) before is = is.1
+runs_one terms d (handed n bytes) before is = is
+runs_one terms d (parted n whole) before is = is
+runs_one terms d (lost n) before is = is
+runs_one terms d (waited room) before is = is
 
 room_one : (d : Desk) (deed : Deed) (before : List Deed) → HasRoom d (deed ∷ before) → HasRoom d before
 room_one d (stepped (opened n) r) before is = is.2
@@ -44,9 +45,9 @@ paced_one (parted n true) before is = is.1
 paced_one (lost n) before is = is
 paced_one (waited room) before is = is
 
-pub runs_past : (most : Option ℕ) (d : Desk) (after before : List Deed) → Runs most d (after ++ before) → Runs most d before
-runs_past most d [] before is = is
-runs_past most d (deed ∷ after) before is = runs_past most d after before (runs_one most d deed (after ++ before) is)
+pub runs_past : (terms : Terms) (d : Desk) (after before : List Deed) → Runs terms d (after ++ before) → Runs terms d before
+runs_past terms d [] before is = is
+runs_past terms d (deed ∷ after) before is = runs_past terms d after before (runs_one terms d deed (after ++ before) is)
 
 pub room_past : (d : Desk) (after before : List Deed) → HasRoom d (after ++ before) → HasRoom d before
 room_past d [] before is = is

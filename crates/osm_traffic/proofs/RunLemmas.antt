@@ -6,11 +6,12 @@ use Rattle.std.specs.FinMap.{get, insert, len, len-remove, remove}
 use Rattle.std.specs.Prelude.{◌==◌, Option, Some, None, Result, Ok, Err, cond, is_some, if◌then◌else◌, nat_lt}
 use Rattle.osm_desk.specs.Desks.{Connections, Desk, Told, arrive_step, end_step, open_step, publish_step, quietly, refuse, step}
 use Rattle.osm_desk.specs.Happenings.{Happening, arrived, ended, opened, published}
-use Rattle.osm_desk.specs.Runs.{Done, IsRefusedBy, RanWithin, got, stands, stood, texts_in}
-use Rattle.osm_desk.specs.Stepping.{GivesWithin, RespondEachWithin}
+use Rattle.osm_desk.specs.Runs.{Done, IsRefusedBy, RanOn, got, stands, stood, texts_in}
+use Rattle.osm_desk.specs.Stepping.{GivesOn, RespondEachOn}
 use Rattle.osm_desk.specs.Told.{FindsRoom, MeetsRoom}
 use Rattle.osm_gate.specs.Connections.{Rest, open_rest}
 use Rattle.osm_gate.specs.Serving.{no_memory}
+use Rattle.osm_gate.specs.Terms.{Terms}
 use Rattle.osm_keys.specs.Publications.{Publication}
 use Rattle.osm_index.specs.declared.apply_fault.ApplyFault.{ApplyFault}
 use Rattle.osm_desk.specs.declared.desk_fault.DeskFault.{DeskFault}
@@ -52,9 +53,9 @@ after d [] = d
 after d ((h, Ok answers) ∷ more) = after (step d h).desk more
 after d ((h, Err fault) ∷ more) = after d more
 
-IsStep : Option ℕ → Desk → Happening → Result (List (ℕ × List ℕ)) DeskFault → Type 0
-IsStep most d h (Ok answers) = GivesWithin most (step d h).reply answers
-IsStep most d h (Err fault) = IsRefusedBy d h fault
+IsStep : Terms → Desk → Happening → Result (List (ℕ × List ℕ)) DeskFault → Type 0
+IsStep terms d h (Ok answers) = GivesOn terms (step d h).reply answers
+IsStep terms d h (Err fault) = IsRefusedBy d h fault
 
 next : Desk → Happening → Result (List (ℕ × List ℕ)) DeskFault → Desk
 next d h (Ok answers) = (step d h).desk
@@ -67,12 +68,12 @@ after_more [] d h (Err fault) = refl
 after_more ((k, Ok answers) ∷ run) d h r = after_more run (step d k).desk h r
 after_more ((k, Err fault) ∷ run) d h r = after_more run d h r
 
-ran_more : (most : Option ℕ) (run : List Done) (d : Desk) (h : Happening) (r : Result (List (ℕ × List ℕ)) DeskFault) → RanWithin most d run → IsStep most (after d run) h r → RanWithin most d (run ++ (h, r) ∷ [])
+ran_more : (terms : Terms) (run : List Done) (d : Desk) (h : Happening) (r : Result (List (ℕ × List ℕ)) DeskFault) → RanOn terms d run → IsStep terms (after d run) h r → RanOn terms d (run ++ (h, r) ∷ [])
 unfolding after IsStep
-ran_more most [] d h (Ok answers) ran one = (one, tt)
-ran_more most [] d h (Err fault) ran one = (one, tt)
-ran_more most ((k, Ok answers) ∷ run) d h r ran one = (ran.0, ran_more most run (step d k).desk h r ran.1 one)
-ran_more most ((k, Err fault) ∷ run) d h r ran one = (ran.0, ran_more most run d h r ran.1 one)
+ran_more terms [] d h (Ok answers) ran one = (one, tt)
+ran_more terms [] d h (Err fault) ran one = (one, tt)
+ran_more terms ((k, Ok answers) ∷ run) d h r ran one = (ran.0, ran_more terms run (step d k).desk h r ran.1 one)
+ran_more terms ((k, Err fault) ∷ run) d h r ran one = (ran.0, ran_more terms run d h r ran.1 one)
 
 after_deeds : (d : Desk) (deeds : List Deed) → after d (in_order deeds) ≡ desk_after d deeds
 unfolding after next
@@ -84,17 +85,17 @@ after_deeds d (parted n whole ∷ before) = after_deeds d before
 after_deeds d (lost n ∷ before) = after_deeds d before
 after_deeds d (waited room ∷ before) = after_deeds d before
 
-pub ran_in_order : (most : Option ℕ) (d : Desk) (deeds : List Deed) → Runs most d deeds → RanWithin most d (in_order deeds)
+pub ran_in_order : (terms : Terms) (d : Desk) (deeds : List Deed) → Runs terms d deeds → RanOn terms d (in_order deeds)
 unfolding IsStep
-ran_in_order most d [] runs = tt
-ran_in_order most d (stepped h (Ok answers) ∷ before) runs =
-    ran_more most (in_order before) d h (Ok answers) (ran_in_order most d before runs.1) (subst (λ (d : Desk). GivesWithin most (step d h).reply answers) (sym (after_deeds d before)) runs.0)
-ran_in_order most d (stepped h (Err fault) ∷ before) runs =
-    ran_more most (in_order before) d h (Err fault) (ran_in_order most d before runs.1) (subst (λ (d : Desk). IsRefusedBy d h fault) (sym (after_deeds d before)) runs.0)
-ran_in_order most d (handed n bytes ∷ before) runs = ran_in_order most d before runs
-ran_in_order most d (parted n whole ∷ before) runs = ran_in_order most d before runs
-ran_in_order most d (lost n ∷ before) runs = ran_in_order most d before runs
-ran_in_order most d (waited room ∷ before) runs = ran_in_order most d before runs
+ran_in_order terms d [] runs = tt
+ran_in_order terms d (stepped h (Ok answers) ∷ before) runs =
+    ran_more terms (in_order before) d h (Ok answers) (ran_in_order terms d before runs.1) (subst (λ (d : Desk). GivesOn terms (step d h).reply answers) (sym (after_deeds d before)) runs.0)
+ran_in_order terms d (stepped h (Err fault) ∷ before) runs =
+    ran_more terms (in_order before) d h (Err fault) (ran_in_order terms d before runs.1) (subst (λ (d : Desk). IsRefusedBy d h fault) (sym (after_deeds d before)) runs.0)
+ran_in_order terms d (handed n bytes ∷ before) runs = ran_in_order terms d before runs
+ran_in_order terms d (parted n whole ∷ before) runs = ran_in_order terms d before runs
+ran_in_order terms d (lost n ∷ before) runs = ran_in_order terms d before runs
+ran_in_order terms d (waited room ∷ before) runs = ran_in_order terms d before runs
 
 -- ---- room
 
@@ -149,14 +150,14 @@ finds_if : (c : ℕ) (d : Desk) (h : Happening) (fault : DeskFault) (hs : List H
 finds_if c d h fault hs refused room later false is = later
 finds_if c d h fault hs refused room later true is = (meets c d h room, subst (λ (d : Desk). FindsRoom c d hs) (sym (refused-leaves d h fault (refused is))) later)
 
-finds : (most : Option ℕ) (c : ℕ) (run : List Done) (d : Desk) → RanWithin most d run → IsRoomy d run → FindsRoom c d (stood run)
+finds : (terms : Terms) (c : ℕ) (run : List Done) (d : Desk) → RanOn terms d run → IsRoomy d run → FindsRoom c d (stood run)
 unfolding IsRoomy
-finds most c [] d ran roomy = tt
-finds most c ((h, Ok answers) ∷ more) d ran roomy = (meets c d h roomy.0, finds most c more (step d h).desk ran.1 roomy.1)
-finds most c ((h, Err fault) ∷ more) d ran roomy = finds_if c d h fault (stood more) ran.0 roomy.0 (finds most c more d ran.1 roomy.1) (stands fault) refl
+finds terms c [] d ran roomy = tt
+finds terms c ((h, Ok answers) ∷ more) d ran roomy = (meets c d h roomy.0, finds terms c more (step d h).desk ran.1 roomy.1)
+finds terms c ((h, Err fault) ∷ more) d ran roomy = finds_if c d h fault (stood more) ran.0 roomy.0 (finds terms c more d ran.1 roomy.1) (stands fault) refl
 
-pub finds_in_order : (most : Option ℕ) (c : ℕ) (d : Desk) (deeds : List Deed) → Runs most d deeds → HasRoom d deeds → FindsRoom c d (stood (in_order deeds))
-finds_in_order most c d deeds ran room = finds most c (in_order deeds) d (ran_in_order most d deeds ran) (roomy_in_order d deeds room)
+pub finds_in_order : (terms : Terms) (c : ℕ) (d : Desk) (deeds : List Deed) → Runs terms d deeds → HasRoom d deeds → FindsRoom c d (stood (in_order deeds))
+finds_in_order terms c d deeds ran room = finds terms c (in_order deeds) d (ran_in_order terms d deeds ran) (roomy_in_order d deeds room)
 
 -- ---- what is owed
 
@@ -176,41 +177,41 @@ texts_joined c (a ∷ answers) = elim (a.0 == c) as (λ b. joined (if b then a.1
   | false ↦ texts_joined c answers
 ]
 
-nothing_for : (most : Option ℕ) (c : ℕ) (answers : List (ℕ × List ℕ)) → RespondEachWithin most [] answers → texts_for c answers ≡ []
-nothing_for most c [] r = refl
-nothing_for most c (a ∷ answers) r = absurd r
+nothing_for : (terms : Terms) (c : ℕ) (answers : List (ℕ × List ℕ)) → RespondEachOn terms [] answers → texts_for c answers ≡ []
+nothing_for terms c [] r = refl
+nothing_for terms c (a ∷ answers) r = absurd r
 
-one_for : (most : Option ℕ) (c n : ℕ) (t : Told) (answers : List (ℕ × List ℕ)) → (n ≡ c → ⊥) → RespondEachWithin most ((n, t) ∷ []) answers → texts_for c answers ≡ []
-one_for most c n t [] apart r = refl
-one_for most c n t (a ∷ answers) apart r =
+one_for : (terms : Terms) (c n : ℕ) (t : Told) (answers : List (ℕ × List ℕ)) → (n ≡ c → ⊥) → RespondEachOn terms ((n, t) ∷ []) answers → texts_for c answers ≡ []
+one_for terms c n t [] apart r = refl
+one_for terms c n t (a ∷ answers) apart r =
     ap (λ (k : ℕ). if k == c then a.1 ++ texts_for c answers else texts_for c answers) r.0
     ∙ other n c (a.1 ++ texts_for c answers) (texts_for c answers) apart
-    ∙ nothing_for most c answers r.2
+    ∙ nothing_for terms c answers r.2
 
-opened_for : (most : Option ℕ) (c : ℕ) (d : Desk) (n : ℕ) (o : Option Rest) (answers : List (ℕ × List ℕ)) → GivesWithin most (open_step d n o).reply answers → texts_for c answers ≡ []
-opened_for most c d n (Some r) answers gives = absurd gives
-opened_for most c d n None answers gives = elim (nat_lt (len d.connections) CONNECTION_LIMIT) as (λ b. GivesWithin most (if b then quietly d.publication (insert d.connections n (open_rest [])) else refuse d NoRoom).reply answers → texts_for c answers ≡ [])
-    [ true ↦ λ gives. nothing_for most c answers gives | false ↦ λ gives. absurd gives ] gives
+opened_for : (terms : Terms) (c : ℕ) (d : Desk) (n : ℕ) (o : Option Rest) (answers : List (ℕ × List ℕ)) → GivesOn terms (open_step d n o).reply answers → texts_for c answers ≡ []
+opened_for terms c d n (Some r) answers gives = absurd gives
+opened_for terms c d n None answers gives = elim (nat_lt (len d.connections) CONNECTION_LIMIT) as (λ b. GivesOn terms (if b then quietly d.publication (insert d.connections n (open_rest [])) else refuse d NoRoom).reply answers → texts_for c answers ≡ [])
+    [ true ↦ λ gives. nothing_for terms c answers gives | false ↦ λ gives. absurd gives ] gives
 
-arrived_for : (most : Option ℕ) (c : ℕ) (d : Desk) (n : ℕ) (piece : List ℕ) (o : Option Rest) (answers : List (ℕ × List ℕ)) → (n ≡ c → ⊥) → GivesWithin most (arrive_step d n piece o).reply answers → texts_for c answers ≡ []
-arrived_for most c d n piece None answers apart gives = absurd gives
-arrived_for most c d n piece (Some r) answers apart gives = one_for most c n _ answers apart gives
+arrived_for : (terms : Terms) (c : ℕ) (d : Desk) (n : ℕ) (piece : List ℕ) (o : Option Rest) (answers : List (ℕ × List ℕ)) → (n ≡ c → ⊥) → GivesOn terms (arrive_step d n piece o).reply answers → texts_for c answers ≡ []
+arrived_for terms c d n piece None answers apart gives = absurd gives
+arrived_for terms c d n piece (Some r) answers apart gives = one_for terms c n _ answers apart gives
 
-ended_for : (most : Option ℕ) (c : ℕ) (d : Desk) (n : ℕ) (o : Option Rest) (answers : List (ℕ × List ℕ)) → GivesWithin most (end_step d n o).reply answers → texts_for c answers ≡ []
-ended_for most c d n None answers gives = absurd gives
-ended_for most c d n (Some r) answers gives = nothing_for most c answers gives
+ended_for : (terms : Terms) (c : ℕ) (d : Desk) (n : ℕ) (o : Option Rest) (answers : List (ℕ × List ℕ)) → GivesOn terms (end_step d n o).reply answers → texts_for c answers ≡ []
+ended_for terms c d n None answers gives = absurd gives
+ended_for terms c d n (Some r) answers gives = nothing_for terms c answers gives
 
-published_for : (most : Option ℕ) (c : ℕ) (d : Desk) (r : Result Publication ApplyFault) (answers : List (ℕ × List ℕ)) → GivesWithin most (publish_step d r).reply answers → texts_for c answers ≡ []
-published_for most c d (Err fault) answers gives = absurd gives
-published_for most c d (Ok p) answers gives = nothing_for most c answers gives
+published_for : (terms : Terms) (c : ℕ) (d : Desk) (r : Result Publication ApplyFault) (answers : List (ℕ × List ℕ)) → GivesOn terms (publish_step d r).reply answers → texts_for c answers ≡ []
+published_for terms c d (Err fault) answers gives = absurd gives
+published_for terms c d (Ok p) answers gives = nothing_for terms c answers gives
 
 -- a connection that isn't heard is given nothing
-unheard : (most : Option ℕ) (c : ℕ) (d : Desk) (h : Happening) (answers : List (ℕ × List ℕ)) (before : List Deed) → is_fed c before ≡ false → IsHushed (stepped h (Ok answers) ∷ before) → GivesWithin most (step d h).reply answers → texts_for c answers ≡ []
-unheard most c d (opened n) answers before isnt hushed gives = opened_for most c d n (get d.connections n) answers gives
-unheard most c d (arrived n piece) answers before isnt hushed gives =
-    arrived_for most c d n piece (get d.connections n) answers (λ (e : n ≡ c). let no = sym (subst (λ c. is_fed c before ≡ true) e hushed.0) ∙ isnt in cc) gives
-unheard most c d (ended n) answers before isnt hushed gives = ended_for most c d n (get d.connections n) answers gives
-unheard most c d (published made) answers before isnt hushed gives = published_for most c d made answers gives
+unheard : (terms : Terms) (c : ℕ) (d : Desk) (h : Happening) (answers : List (ℕ × List ℕ)) (before : List Deed) → is_fed c before ≡ false → IsHushed (stepped h (Ok answers) ∷ before) → GivesOn terms (step d h).reply answers → texts_for c answers ≡ []
+unheard terms c d (opened n) answers before isnt hushed gives = opened_for terms c d n (get d.connections n) answers gives
+unheard terms c d (arrived n piece) answers before isnt hushed gives =
+    arrived_for terms c d n piece (get d.connections n) answers (λ (e : n ≡ c). let no = sym (subst (λ c. is_fed c before ≡ true) e hushed.0) ∙ isnt in cc) gives
+unheard terms c d (ended n) answers before isnt hushed gives = ended_for terms c d n (get d.connections n) answers gives
+unheard terms c d (published made) answers before isnt hushed gives = published_for terms c d made answers gives
 
 hushed_before : (h : Happening) (r : Result (List (ℕ × List ℕ)) DeskFault) (before : List Deed) → IsHushed (stepped h r ∷ before) → IsHushed before
 hushed_before (opened n) r before hushed = hushed.1
@@ -240,20 +241,20 @@ joined_more c run h answers =
     ∙ joined_append (got c run) (texts_in c answers ++ [])
     ∙ ap (λ text. joined (got c run) ++ text) (ap joined (append-nil (texts_in c answers)) ∙ texts_joined c answers)
 
-pub owed_joined : (most : Option ℕ) (c : ℕ) (d : Desk) (deeds : List Deed) → Runs most d deeds → IsHushed deeds → owed c deeds ≡ joined (got c (in_order deeds)) ++ last_word (is_fed c deeds)
-owed_joined most c d [] runs hushed = refl
-owed_joined most c d (stepped h (Ok answers) ∷ before) runs hushed =
-    ok_words c (owed c before) (texts_for c answers) (joined (got c (in_order before))) (is_fed c before) (owed_joined most c d before runs.1 (hushed_before h (Ok answers) before hushed))
-    (λ isnt. unheard most c (desk_after d before) h answers before isnt hushed runs.0)
+pub owed_joined : (terms : Terms) (c : ℕ) (d : Desk) (deeds : List Deed) → Runs terms d deeds → IsHushed deeds → owed c deeds ≡ joined (got c (in_order deeds)) ++ last_word (is_fed c deeds)
+owed_joined terms c d [] runs hushed = refl
+owed_joined terms c d (stepped h (Ok answers) ∷ before) runs hushed =
+    ok_words c (owed c before) (texts_for c answers) (joined (got c (in_order before))) (is_fed c before) (owed_joined terms c d before runs.1 (hushed_before h (Ok answers) before hushed))
+    (λ isnt. unheard terms c (desk_after d before) h answers before isnt hushed runs.0)
     ∙ ap (λ joint. joint ++ last_word (is_fed c before)) (sym (joined_more c (in_order before) h answers))
-owed_joined most c d (stepped h (Err fault) ∷ before) runs hushed =
-    err_words (owed c before) (joined (got c (in_order before))) (is_fed c before) (starves c h) (owed_joined most c d before runs.1 (hushed_before h (Err fault) before hushed))
+owed_joined terms c d (stepped h (Err fault) ∷ before) runs hushed =
+    err_words (owed c before) (joined (got c (in_order before))) (is_fed c before) (starves c h) (owed_joined terms c d before runs.1 (hushed_before h (Err fault) before hushed))
     (λ is. starved c h (Err fault) before is hushed)
     ∙ ap (λ texts. joined texts ++ last_word (is_fed c (stepped h (Err fault) ∷ before))) (sym (got_append c (in_order before) ((h, Err fault) ∷ []) ∙ append-nil (got c (in_order before))))
-owed_joined most c d (handed n bytes ∷ before) runs hushed = owed_joined most c d before runs hushed
-owed_joined most c d (parted n whole ∷ before) runs hushed = owed_joined most c d before runs hushed
-owed_joined most c d (lost n ∷ before) runs hushed = owed_joined most c d before runs hushed
-owed_joined most c d (waited room ∷ before) runs hushed = owed_joined most c d before runs hushed
+owed_joined terms c d (handed n bytes ∷ before) runs hushed = owed_joined terms c d before runs hushed
+owed_joined terms c d (parted n whole ∷ before) runs hushed = owed_joined terms c d before runs hushed
+owed_joined terms c d (lost n ∷ before) runs hushed = owed_joined terms c d before runs hushed
+owed_joined terms c d (waited room ∷ before) runs hushed = owed_joined terms c d before runs hushed
 
-pub handed_own : (most : Option ℕ) (c wanted : ℕ) (d : Desk) (deeds : List Deed) → Serves most wanted d deeds → (rest : List ℕ) × (sent c deeds ++ rest ≡ joined (got c (in_order deeds)) ++ last_word (is_fed c deeds))
-handed_own most c wanted d deeds s = let (rest, is) = s.fronts c in (rest, is ∙ owed_joined most c d deeds s.ran s.hushed)
+pub handed_own : (terms : Terms) (c wanted : ℕ) (d : Desk) (deeds : List Deed) → Serves terms wanted d deeds → (rest : List ℕ) × (sent c deeds ++ rest ≡ joined (got c (in_order deeds)) ++ last_word (is_fed c deeds))
+handed_own terms c wanted d deeds s = let (rest, is) = s.fronts c in (rest, is ∙ owed_joined terms c d deeds s.ran s.hushed)

@@ -10,11 +10,11 @@ use Rattle.osm_desk.specs.Desks.{Connections, Desk, Step, arrive_step, end_step,
 use Rattle.osm_desk.specs.Happenings.{Happening, arrived, ended, opened, published}
 use Rattle.osm_desk.specs.Runs.{IsRefusedBy}
 use Rattle.osm_desk.specs.OneConnection.{IsFree, RefusesOpening, rest_if, rest_of, with_rest, without}
-use Rattle.osm_desk.specs.Stepping.{GivesWithin}
-use Rattle.osm_gate.specs.Connections.{RespondsWithin, Rest, requests_next, open_rest}
+use Rattle.osm_desk.specs.Stepping.{GivesOn}
+use Rattle.osm_gate.specs.Connections.{RespondsOn, Rest, requests_next, open_rest}
 use Rattle.osm_gate.specs.Serving.{no_memory}
 use Rattle.osm_keys.specs.Publications.{Publication}
-use Rattle.osm_index.specs.Snapshots.{HoldsPublication}
+use Rattle.osm_gate.specs.Terms.{Terms}
 use Rattle.osm_desk.specs.declared.desk_fault.DeskFault.{DeskFault}
 use Rattle.osm_desk.specs.declared.desk_fault.DeskFault.TheVariants.{AlreadyOpen, Memory, NoRoom, NotOpen, Refused}
 use Rattle.osm_desk.specs.declared.limits.TheConstants.{CONNECTION_LIMIT}
@@ -50,7 +50,7 @@ true_if false isnt = absurd (isnt refl)
 apart : (outputs : Waiting) (taken n c : ℕ) (bytes : List ℕ) → ((c : ℕ) → taken ≤ c → get outputs c ≡ None) → get outputs n ≡ Some bytes → taken ≤ c → n ≡ c → ⊥
 apart outputs taken n c bytes known some above is = let none = known n (subst (λ c. taken ≤ c) (sym is) above) in let no = sym some ∙ none in cc
 
-module _ (most : Option ℕ) (wanted : ℕ) (d : Desk) (base : List Entry) (deeds : List Deed) (log : Option (List Entry)) (outputs : Waiting) (contents : Contents) (taken : ℕ) (s : Stands most wanted d base deeds log outputs contents taken) where
+module _ {M : Type 0} (holds : M → Publication → Type 0) (terms : Terms) (wanted : ℕ) (d : Desk) (base : List Entry) (deeds : List Deed) (log : Option (List Entry)) (outputs : Waiting) (contents : Contents M) (taken : ℕ) (s : Stands holds terms wanted d base deeds log outputs contents taken) where
   abbrev D : Desk
   D = desk_after d deeds
 
@@ -69,7 +69,7 @@ module _ (most : Option ℕ) (wanted : ℕ) (d : Desk) (base : List Entry) (deed
         (λ (e : n ≡ c → ⊥). rw (get-put_other outputs n (drop count bytes) c e, other n c (sent c deeds ++ take count bytes) (sent c deeds) e) (s.owes c))
         (cases_eq n c)
 
-    pub hands : Stands most wanted d base (handed n (take count bytes) ∷ deeds) (noted (took n (take count bytes)) log) (insert outputs n (drop count bytes)) contents taken
+    pub hands : Stands holds terms wanted d base (handed n (take count bytes) ∷ deeds) (noted (took n (take count bytes)) log) (insert outputs n (drop count bytes)) contents taken
     hands = record {
       logged = ap (noted (took n (take count bytes))) s.logged;
       ran = s.ran;
@@ -105,16 +105,16 @@ module _ (most : Option ℕ) (wanted : ℕ) (d : Desk) (base : List Entry) (deed
   fed_ended c n (Some r) = refl
 
   module _ (n : ℕ) where
-    runs_ended : (o : Option Rest) → get D.connections n ≡ o → Runs most d (stepped (ended n) (ended_reply o) ∷ deeds)
+    runs_ended : (o : Option Rest) → get D.connections n ≡ o → Runs terms d (stepped (ended n) (ended_reply o) ∷ deeds)
     runs_ended None is = ((λ _. ap (λ o. (end_step D n o).reply) is), s.ran)
-    runs_ended (Some r) is = (subst (λ (t : Step). GivesWithin most t.reply []) (sym (ap (end_step D n) is)) tt, s.ran)
+    runs_ended (Some r) is = (subst (λ (t : Step). GivesOn terms t.reply []) (sym (ap (end_step D n) is)) tt, s.ran)
 
-    desk_ended : (o : Option Rest) → get D.connections n ≡ o → StandsFor (without contents n) (desk_after d (stepped (ended n) (ended_reply o) ∷ deeds))
+    desk_ended : (o : Option Rest) → get D.connections n ≡ o → StandsFor holds (without contents n) (desk_after d (stepped (ended n) (ended_reply o) ∷ deeds))
     desk_ended None is = (s.desk.0, ap (λ (all : Connections). remove all n) same_connections ∙ removed-none D.connections n is)
-    desk_ended (Some r) is = subst (λ (t : Step). StandsFor (without contents n) t.desk) (sym (ap (end_step D n) is)) (s.desk.0, ap (λ (all : Connections). remove all n) same_connections)
+    desk_ended (Some r) is = subst (λ (t : Step). StandsFor holds (without contents n) t.desk) (sym (ap (end_step D n) is)) (s.desk.0, ap (λ (all : Connections). remove all n) same_connections)
 
     -- the desk forgets the connection
-    pub forgets : Stands most wanted d base (stepped (ended n) (ended_reply (get D.connections n)) ∷ deeds) log outputs (without contents n) taken
+    pub forgets : Stands holds terms wanted d base (stepped (ended n) (ended_reply (get D.connections n)) ∷ deeds) log outputs (without contents n) taken
     forgets =
         let o = get D.connections n in
         record {
@@ -156,7 +156,7 @@ module _ (most : Option ℕ) (wanted : ℕ) (d : Desk) (base : List Entry) (deed
     one_less = len-removed_some outputs n left_over some ∙ ap (λ k. k - 1) s.open_are
 
     -- its socket is let go
-    pub leaves : (whole : Bool) → (whole ≡ true → get outputs n ≡ Some []) → Stands most wanted d base (parted n whole ∷ deeds) (noted (left n whole) log) (remove outputs n) contents taken
+    pub leaves : (whole : Bool) → (whole ≡ true → get outputs n ≡ Some []) → Stands holds terms wanted d base (parted n whole ∷ deeds) (noted (left n whole) log) (remove outputs n) contents taken
     leaves whole idle = record {
       logged = ap (noted (left n whole)) s.logged;
       ran = s.ran;
@@ -178,7 +178,7 @@ module _ (most : Option ℕ) (wanted : ℕ) (d : Desk) (base : List Entry) (deed
     }
 
     -- it has none
-    pub loses : Stands most wanted d base (lost n ∷ deeds) log (remove outputs n) contents taken
+    pub loses : Stands holds terms wanted d base (lost n ∷ deeds) log (remove outputs n) contents taken
     loses = record {
       logged = s.logged;
       ran = s.ran;
@@ -202,7 +202,7 @@ module _ (most : Option ℕ) (wanted : ℕ) (d : Desk) (base : List Entry) (deed
   -- ---- what is next is waited for
 
   pub waits : (room : Room) → ((room ≡ Free) ↔ ((taken < wanted) × (len outputs < CONNECTION_LIMIT) × (len contents.connections < CONNECTION_LIMIT)))
-      → Stands most wanted d base (waited room ∷ deeds) (noted (entries.waited room) log) outputs contents taken
+      → Stands holds terms wanted d base (waited room ∷ deeds) (noted (entries.waited room) log) outputs contents taken
   waits room free = record {
     logged = ap (noted (entries.waited room)) s.logged;
     ran = s.ran;
@@ -279,25 +279,25 @@ module _ (most : Option ℕ) (wanted : ℕ) (d : Desk) (base : List Entry) (deed
     fed_now : IsSome (get contents.connections n) → is_fed n deeds ≡ true
     fed_now opens = true_if (is_fed n deeds) (λ isnt. let none = ap is_some (s.gone n isnt) in let no = sym opens ∙ none in cc)
 
-    pub hears_ok : (contents' : Contents) (text : List ℕ) → IsSome (get contents.connections n)
-        → ((p : Publication) → HoldsPublication contents.snapshot p → RespondsWithin most p (requests_next (rest_of contents n) piece).complete text)
+    pub hears_ok : (contents' : Contents M) (text : List ℕ) → IsSome (get contents.connections n)
+        → ((p : Publication) → holds contents.mirror p → RespondsOn terms p (requests_next (rest_of contents n) piece).complete text)
         → contents' ≡ with_rest contents n (requests_next (rest_of contents n) piece).rest
-        → Stands most wanted d base (stepped (arrived n piece) (Ok ((n, text) ∷ [])) ∷ deeds) (noted (brought n piece) log) (insert outputs n text) contents' taken
+        → Stands holds terms wanted d base (stepped (arrived n piece) (Ok ((n, text) ∷ [])) ∷ deeds) (noted (brought n piece) log) (insert outputs n text) contents' taken
     hears_ok contents' text opens responds new =
         let (r, found) = some_by (get contents.connections n) opens in
         let rest_is : rest_of contents n ≡ r = ap (λ o. rest_if o) found in
         let at : get D.connections n ≡ Some r = ap (λ (all : Connections). get all n) (sym same_connections) ∙ found in
         let its : text_for n (arrived n piece) (Ok ((n, text) ∷ [])) ≡ text = same n (text ++ []) [] ∙ append-nil text in
-        let gives : GivesWithin most (arrive_step D n piece (Some r)).reply ((n, text) ∷ []) = (refl, subst (λ (r : Rest). RespondsWithin most D.publication (requests_next r piece).complete text) rest_is (responds D.publication s.desk.0), tt) in
-        let grown : contents'.connections ≡ insert contents.connections n (requests_next (rest_of contents n) piece).rest = ap (λ (c : Contents). c.connections) new in
-        let held : HoldsPublication contents'.snapshot D.publication = subst (λ (c : Contents). HoldsPublication c.snapshot D.publication) (sym new) s.desk.0 in
+        let gives : GivesOn terms (arrive_step D n piece (Some r)).reply ((n, text) ∷ []) = (refl, subst (λ (r : Rest). RespondsOn terms D.publication (requests_next r piece).complete text) rest_is (responds D.publication s.desk.0), tt) in
+        let grown : contents'.connections ≡ insert contents.connections n (requests_next (rest_of contents n) piece).rest = ap (λ (c : Contents M). c.connections) new in
+        let held : holds contents'.mirror D.publication = subst (λ (c : Contents M). holds c.mirror D.publication) (sym new) s.desk.0 in
         let joined : contents'.connections ≡ insert D.connections n (requests_next r piece).rest =
-        ap (λ (c : Contents). c.connections) new ∙ ap (λ (all : Connections). insert all n (requests_next (rest_of contents n) piece).rest) same_connections
+        ap (λ (c : Contents M). c.connections) new ∙ ap (λ (all : Connections). insert all n (requests_next (rest_of contents n) piece).rest) same_connections
         ∙ ap (λ (r : Rest). insert D.connections n (requests_next r piece).rest) rest_is in
         record {
           logged = ap (noted (brought n piece)) s.logged;
-          ran = (subst (λ (t : Step). GivesWithin most t.reply ((n, text) ∷ [])) (sym (ap (arrive_step D n piece) at)) gives, s.ran);
-          desk = subst (λ (t : Step). StandsFor contents' t.desk) (sym (ap (arrive_step D n piece) at)) (held, joined);
+          ran = (subst (λ (t : Step). GivesOn terms t.reply ((n, text) ∷ [])) (sym (ap (arrive_step D n piece) at)) gives, s.ran);
+          desk = subst (λ (t : Step). StandsFor holds contents' t.desk) (sym (ap (arrive_step D n piece) at)) (held, joined);
           owes = owes_more n (arrived n piece) (Ok ((n, text) ∷ [])) text its (λ c apart. to_one c text apart) (λ c apart. refl) all_sent;
           known = known_more n (arrived n piece) (Ok ((n, text) ∷ [])) text its (λ c apart. to_one c text apart) (λ c apart. refl) all_sent taken (omega arith) below;
           fresh = fresh_more n (arrived n piece) (Ok ((n, text) ∷ [])) text its (λ c apart. to_one c text apart) (λ c apart. refl) all_sent taken (omega arith) below;
@@ -316,19 +316,19 @@ module _ (most : Option ℕ) (wanted : ℕ) (d : Desk) (base : List Entry) (deed
           makes_room = s.makes_room;
         }
 
-    pub hears_err : (contents' : Contents) → IsSome (get contents.connections n) → contents' ≡ without contents n
-        → Stands most wanted d base (stepped (ended n) (Ok []) ∷ stepped (arrived n piece) (Err Memory) ∷ deeds) (noted (brought n piece) log) (insert outputs n no_memory) contents' taken
+    pub hears_err : (contents' : Contents M) → IsSome (get contents.connections n) → contents' ≡ without contents n
+        → Stands holds terms wanted d base (stepped (ended n) (Ok []) ∷ stepped (arrived n piece) (Err Memory) ∷ deeds) (noted (brought n piece) log) (insert outputs n no_memory) contents' taken
     hears_err contents' opens new =
         let (r, found) = some_by (get contents.connections n) opens in
         let at : get D.connections n ≡ Some r = ap (λ (all : Connections). get all n) (sym same_connections) ∙ found in
         let its : text_for n (arrived n piece) (Err Memory) ≡ no_memory = same n no_memory [] in
-        let shrunk : contents'.connections ≡ remove contents.connections n = ap (λ (c : Contents). c.connections) new in
-        let held : HoldsPublication contents'.snapshot D.publication = subst (λ (c : Contents). HoldsPublication c.snapshot D.publication) (sym new) s.desk.0 in
+        let shrunk : contents'.connections ≡ remove contents.connections n = ap (λ (c : Contents M). c.connections) new in
+        let held : holds contents'.mirror D.publication = subst (λ (c : Contents M). holds c.mirror D.publication) (sym new) s.desk.0 in
         let joined : contents'.connections ≡ remove D.connections n = shrunk ∙ ap (λ (all : Connections). remove all n) same_connections in
         record {
           logged = ap (noted (brought n piece)) s.logged;
-          ran = (subst (λ (t : Step). GivesWithin most t.reply []) (sym (ap (end_step D n) at)) tt, ((λ (no : false ≡ true). cc), s.ran));
-          desk = subst (λ (t : Step). StandsFor contents' t.desk) (sym (ap (end_step D n) at)) (held, joined);
+          ran = (subst (λ (t : Step). GivesOn terms t.reply []) (sym (ap (end_step D n) at)) tt, ((λ (no : false ≡ true). cc), s.ran));
+          desk = subst (λ (t : Step). StandsFor holds contents' t.desk) (sym (ap (end_step D n) at)) (held, joined);
           owes = λ c. subst (λ all. IsOwed (get (insert outputs n no_memory) c) (sent c deeds) all) (sym (append-nil (owed c deeds ++ text_for c (arrived n piece) (Err Memory))))
               (owes_more n (arrived n piece) (Err Memory) no_memory its (λ c apart. other n c no_memory [] apart) (λ c apart. other n c false (is_fed c deeds) apart) all_sent c);
           known = known_more n (arrived n piece) (Err Memory) no_memory its (λ c apart. other n c no_memory [] apart) (λ c apart. other n c false (is_fed c deeds) apart) all_sent taken (omega arith) below;
@@ -369,21 +369,21 @@ module _ (most : Option ℕ) (wanted : ℕ) (d : Desk) (base : List Entry) (deed
     nothing : sent taken deeds ≡ owed taken deeds
     nothing = let both = s.fresh taken (omega arith) in both.0 ∙ sym (both.1)
 
-    pub opens_ok : (contents' : Contents) → IsFree contents taken → contents' ≡ with_rest contents taken (open_rest [])
-        → Stands most wanted d base (stepped (opened taken) (Ok []) ∷ deeds) (noted (came taken) log) (insert outputs taken []) contents' (taken + 1)
+    pub opens_ok : (contents' : Contents M) → IsFree contents taken → contents' ≡ with_rest contents taken (open_rest [])
+        → Stands holds terms wanted d base (stepped (opened taken) (Ok []) ∷ deeds) (noted (came taken) log) (insert outputs taken []) contents' (taken + 1)
     opens_ok contents' free new =
         let none : get D.connections taken ≡ None = ap (λ (all : Connections). get all taken) (sym same_connections) ∙ free.0 in
         let is_opened : step D (opened taken) ≡ quietly D.publication (insert D.connections taken (open_rest [])) =
         ap (open_step D taken) none
         ∙ ap (λ b. if b then quietly D.publication (insert D.connections taken (open_rest [])) else refuse D NoRoom) (lt-ltb (len D.connections) CONNECTION_LIMIT has_room) in
-        let grown : contents'.connections ≡ insert contents.connections taken (open_rest []) = ap (λ (c : Contents). c.connections) new in
-        let held : HoldsPublication contents'.snapshot D.publication = subst (λ (c : Contents). HoldsPublication c.snapshot D.publication) (sym new) s.desk.0 in
+        let grown : contents'.connections ≡ insert contents.connections taken (open_rest []) = ap (λ (c : Contents M). c.connections) new in
+        let held : holds contents'.mirror D.publication = subst (λ (c : Contents M). holds c.mirror D.publication) (sym new) s.desk.0 in
         let joined : contents'.connections ≡ insert D.connections taken (open_rest []) =
-        ap (λ (c : Contents). c.connections) new ∙ ap (λ (all : Connections). insert all taken (open_rest [])) same_connections in
+        ap (λ (c : Contents M). c.connections) new ∙ ap (λ (all : Connections). insert all taken (open_rest [])) same_connections in
         record {
           logged = ap (noted (came taken)) s.logged;
-          ran = (subst (λ (t : Step). GivesWithin most t.reply []) (sym is_opened) tt, s.ran);
-          desk = subst (λ (t : Step). StandsFor contents' t.desk) (sym is_opened) (held, joined);
+          ran = (subst (λ (t : Step). GivesOn terms t.reply []) (sym is_opened) tt, s.ran);
+          desk = subst (λ (t : Step). StandsFor holds contents' t.desk) (sym is_opened) (held, joined);
           owes = owes_more taken (opened taken) (Ok []) [] refl (λ c apart. refl) (λ c apart. refl) nothing;
           known = known_more taken (opened taken) (Ok []) [] refl (λ c apart. refl) (λ c apart. refl) nothing (taken + 1) (omega arith) (omega arith);
           fresh = fresh_more taken (opened taken) (Ok []) [] refl (λ c apart. refl) (λ c apart. refl) nothing (taken + 1) (omega arith) (omega arith);
@@ -409,19 +409,19 @@ module _ (most : Option ℕ) (wanted : ℕ) (d : Desk) (base : List Entry) (deed
     refused_opening (Refused fault) is = absurd is
     refused_opening Memory is = λ (no : false ≡ true). cc
 
-    pub opens_err : (contents' : Contents) (fault : DeskFault) → RefusesOpening contents taken fault → contents' ≡ contents
-        → Stands most wanted d base (stepped (opened taken) (Err fault) ∷ deeds) (noted (came taken) log) (insert outputs taken no_memory) contents' (taken + 1)
+    pub opens_err : (contents' : Contents M) (fault : DeskFault) → RefusesOpening contents taken fault → contents' ≡ contents
+        → Stands holds terms wanted d base (stepped (opened taken) (Err fault) ∷ deeds) (noted (came taken) log) (insert outputs taken no_memory) contents' (taken + 1)
     opens_err contents' fault refused new =
         let its : text_for taken (opened taken) (Err fault) ≡ no_memory = same taken no_memory [] in
         record {
           logged = ap (noted (came taken)) s.logged;
           ran = (refused_opening fault refused, s.ran);
-          desk = subst (λ (c : Contents). StandsFor c D) (sym new) s.desk;
+          desk = subst (λ (c : Contents M). StandsFor holds c D) (sym new) s.desk;
           owes = owes_more taken (opened taken) (Err fault) no_memory its (λ c apart. other taken c no_memory [] apart) (λ c apart. other taken c false (is_fed c deeds) apart) nothing;
           known = known_more taken (opened taken) (Err fault) no_memory its (λ c apart. other taken c no_memory [] apart) (λ c apart. other taken c false (is_fed c deeds) apart) nothing (taken + 1) (omega arith) (omega arith);
           fresh = fresh_more taken (opened taken) (Err fault) no_memory its (λ c apart. other taken c no_memory [] apart) (λ c apart. other taken c false (is_fed c deeds) apart) nothing (taken + 1) (omega arith) (omega arith);
-          unopened = λ c above. ap (λ (all : Contents). get all.connections c) new ∙ s.unopened c (omega arith);
-          gone = λ c isnt. ap (λ (all : Contents). get all.connections c) new ∙ gone_new c isnt;
+          unopened = λ c above. ap (λ (all : Contents M). get all.connections c) new ∙ s.unopened c (omega arith);
+          gone = λ c isnt. ap (λ (all : Contents M). get all.connections c) new ∙ gone_new c isnt;
           hushed = (fed_new, s.hushed);
           paced = s.paced;
           room = (sym s.count, has_room, s.room);
@@ -434,7 +434,7 @@ module _ (most : Option ℕ) (wanted : ℕ) (d : Desk) (base : List Entry) (deed
         }
 
     -- without a output for it
-    pub opens_not : Stands most wanted d base (lost taken ∷ stepped (opened taken) (Err Memory) ∷ deeds) (noted (came taken) log) outputs contents (taken + 1)
+    pub opens_not : Stands holds terms wanted d base (lost taken ∷ stepped (opened taken) (Err Memory) ∷ deeds) (noted (came taken) log) outputs contents (taken + 1)
     opens_not =
         let owes : (c : ℕ) → IsOwed (get outputs c) (sent c deeds) (owed c deeds ++ text_for c (opened taken) (Err Memory)) = λ c. ⊎_elim
         (λ (e : taken ≡ c). subst (λ c. IsOwed (get outputs c) (sent c deeds) (owed c deeds ++ text_for c (opened taken) (Err Memory))) e
@@ -463,8 +463,8 @@ module _ (most : Option ℕ) (wanted : ℕ) (d : Desk) (base : List Entry) (deed
 
   -- ---- changes are published
 
-  module _ (contents' : Contents) (connections : contents'.connections ≡ contents.connections) where
-    pub publishes : (q : Publication) → IsPublishedFrom D.publication q → HoldsPublication contents'.snapshot q → Stands most wanted d base (stepped (published (Ok q)) (Ok []) ∷ deeds) log outputs contents' taken
+  module _ (contents' : Contents M) (connections : contents'.connections ≡ contents.connections) where
+    pub publishes : (q : Publication) → IsPublishedFrom D.publication q → holds contents'.mirror q → Stands holds terms wanted d base (stepped (published (Ok q)) (Ok []) ∷ deeds) log outputs contents' taken
     publishes q made held = record {
       logged = s.logged;
       ran = (tt, s.ran);
@@ -485,7 +485,7 @@ module _ (most : Option ℕ) (wanted : ℕ) (d : Desk) (base : List Entry) (deed
       makes_room = s.makes_room;
     }
 
-    pub keeps_publication : HoldsPublication contents'.snapshot D.publication → Stands most wanted d base deeds log outputs contents' taken
+    pub keeps_publication : holds contents'.mirror D.publication → Stands holds terms wanted d base deeds log outputs contents' taken
     keeps_publication held = record {
       logged = s.logged;
       ran = s.ran;
@@ -508,13 +508,13 @@ module _ (most : Option ℕ) (wanted : ℕ) (d : Desk) (base : List Entry) (deed
 
   -- ---- what it comes to
 
-  pub serves : Serves most wanted d deeds
+  pub serves : Serves terms wanted d deeds
   serves = record { ran = s.ran; fronts = λ c. owed_any (get outputs c) (sent c deeds) (owed c deeds) (s.owes c); paced = s.paced; room = s.room; makes_room = s.makes_room; hushed = s.hushed; made = s.made; cut = s.cut; single = s.single }
 
 -- the same, told of other values
-pub moved : (most : Option ℕ) (wanted : ℕ) (d : Desk) (base : List Entry) (deeds : List Deed) (log log' : Option (List Entry)) (outputs outputs' : Waiting) (contents contents' : Contents) (taken : ℕ)
-    → log' ≡ log → outputs' ≡ outputs → contents' ≡ contents → Stands most wanted d base deeds log outputs contents taken → Stands most wanted d base deeds log' outputs' contents' taken
-moved most wanted d base deeds log log' outputs outputs' contents contents' taken a b c s = rw (a, b, c) s
+pub moved : {M : Type 0} (holds : M → Publication → Type 0) (terms : Terms) (wanted : ℕ) (d : Desk) (base : List Entry) (deeds : List Deed) (log log' : Option (List Entry)) (outputs outputs' : Waiting) (contents contents' : Contents M) (taken : ℕ)
+    → log' ≡ log → outputs' ≡ outputs → contents' ≡ contents → Stands holds terms wanted d base deeds log outputs contents taken → Stands holds terms wanted d base deeds log' outputs' contents' taken
+moved holds terms wanted d base deeds log log' outputs outputs' contents contents' taken a b c s = rw (a, b, c) s
 
 pub gone : (number : ℕ) (bytes : List ℕ) (old new : Option (List Entry)) (w : Writing) → ((count : ℕ) → w ≡ Took count → ⊥) → Writes number bytes old new w → new ≡ old
 gone number bytes old new (Took count) isnt is = absurd (isnt count refl)
@@ -524,20 +524,20 @@ pub dropped_all : (count : ℕ) (bytes : List ℕ) → count ≡ length bytes �
 dropped_all count bytes is = drop_all count bytes (omega arith)
 
 -- somebody looked for changes
-pub looked : (most : Option ℕ) (wanted : ℕ) (d : Desk) (base : List Entry) (deeds : List Deed) (log : Option (List Entry)) (outputs : Waiting) (contents contents' : Contents) (taken : ℕ) → Stands most wanted d base deeds log outputs contents taken
-    → contents'.connections ≡ contents.connections → ((p : Publication) → HoldsPublication contents.snapshot p → HasPublished p contents'.snapshot)
-    → (more : List Deed) × Stands most wanted d base more log outputs contents' taken
-looked most wanted d base deeds log outputs contents contents' taken s connections in_force = by (in_force (desk_after d deeds).publication s.desk.0)
+pub looked : {M : Type 0} (holds : M → Publication → Type 0) (terms : Terms) (wanted : ℕ) (d : Desk) (base : List Entry) (deeds : List Deed) (log : Option (List Entry)) (outputs : Waiting) (contents contents' : Contents M) (taken : ℕ) → Stands holds terms wanted d base deeds log outputs contents taken
+    → contents'.connections ≡ contents.connections → ((p : Publication) → holds contents.mirror p → HasPublished p (holds contents'.mirror))
+    → (more : List Deed) × Stands holds terms wanted d base more log outputs contents' taken
+looked holds terms wanted d base deeds log outputs contents contents' taken s connections in_force = by (in_force (desk_after d deeds).publication s.desk.0)
   where
-    by : HasPublished (desk_after d deeds).publication contents'.snapshot → (more : List Deed) × Stands most wanted d base more log outputs contents' taken
+    by : HasPublished (desk_after d deeds).publication (holds contents'.mirror) → (more : List Deed) × Stands holds terms wanted d base more log outputs contents' taken
     by (q, held, inl same) =
-        (deeds, keeps_publication most wanted d base deeds log outputs contents taken s contents' connections (subst (λ (q : Publication). HoldsPublication contents'.snapshot q) same held))
-    by (q, held, inr made) = (stepped (published (Ok q)) (Ok []) ∷ deeds, publishes most wanted d base deeds log outputs contents taken s contents' connections q made held)
+        (deeds, keeps_publication holds terms wanted d base deeds log outputs contents taken s contents' connections (subst (λ (q : Publication). holds contents'.mirror q) same held))
+    by (q, held, inr made) = (stepped (published (Ok q)) (Ok []) ∷ deeds, publishes holds terms wanted d base deeds log outputs contents taken s contents' connections q made held)
 
 -- before anything has happened
-pub begins : (most : Option ℕ) (wanted : ℕ) (contents : Contents) (p : Publication) (base : List Entry) (log : Option (List Entry)) → contents.connections ≡ empty → HoldsPublication contents.snapshot p → log ≡ Some base
-    → Stands most wanted (fresh p) base [] log empty contents 0
-begins most wanted contents p base log none held is = record {
+pub begins : {M : Type 0} (holds : M → Publication → Type 0) (terms : Terms) (wanted : ℕ) (contents : Contents M) (p : Publication) (base : List Entry) (log : Option (List Entry)) → contents.connections ≡ empty → holds contents.mirror p → log ≡ Some base
+    → Stands holds terms wanted (fresh p) base [] log empty contents 0
+begins holds terms wanted contents p base log none held is = record {
   logged = is;
   ran = tt;
   desk = (held, none);
@@ -562,12 +562,12 @@ on_err_any P (Ok value) is = tt
 on_err_any P (Err error) is = is
 
 -- a connection is let go, if there was one
-pub parts : (most : Option ℕ) (wanted : ℕ) (d : Desk) (base : List Entry) (deeds : List Deed) (log log' : Option (List Entry)) (outputs : Waiting) (contents : Contents) (taken n : ℕ) (was whole : Bool) (left_over : List ℕ)
-    → get outputs n ≡ Some left_over → (whole ≡ true → get outputs n ≡ Some []) → log' ≡ left_by was n whole log → Stands most wanted d base deeds log outputs contents taken
-    → (more : List Deed) × Stands most wanted d base more log' (remove outputs n) (without contents n) taken
-parts most wanted d base deeds log log' outputs contents taken n false whole left_over some idle is s =
-    let t = forgets most wanted d base deeds log outputs contents taken s n in
-    (_, moved most wanted d base _ _ _ _ _ _ _ taken is refl refl (loses most wanted d base _ log outputs (without contents n) taken t n left_over some))
-parts most wanted d base deeds log log' outputs contents taken n true whole left_over some idle is s =
-    let t = forgets most wanted d base deeds log outputs contents taken s n in
-    (_, moved most wanted d base _ _ _ _ _ _ _ taken is refl refl (leaves most wanted d base _ log outputs (without contents n) taken t n left_over some whole idle))
+pub parts : {M : Type 0} (holds : M → Publication → Type 0) (terms : Terms) (wanted : ℕ) (d : Desk) (base : List Entry) (deeds : List Deed) (log log' : Option (List Entry)) (outputs : Waiting) (contents : Contents M) (taken n : ℕ) (was whole : Bool) (left_over : List ℕ)
+    → get outputs n ≡ Some left_over → (whole ≡ true → get outputs n ≡ Some []) → log' ≡ left_by was n whole log → Stands holds terms wanted d base deeds log outputs contents taken
+    → (more : List Deed) × Stands holds terms wanted d base more log' (remove outputs n) (without contents n) taken
+parts holds terms wanted d base deeds log log' outputs contents taken n false whole left_over some idle is s =
+    let t = forgets holds terms wanted d base deeds log outputs contents taken s n in
+    (_, moved holds terms wanted d base _ _ _ _ _ _ _ taken is refl refl (loses holds terms wanted d base _ log outputs (without contents n) taken t n left_over some))
+parts holds terms wanted d base deeds log log' outputs contents taken n true whole left_over some idle is s =
+    let t = forgets holds terms wanted d base deeds log outputs contents taken s n in
+    (_, moved holds terms wanted d base _ _ _ _ _ _ _ taken is refl refl (leaves holds terms wanted d base _ log outputs (without contents n) taken t n left_over some whole idle))

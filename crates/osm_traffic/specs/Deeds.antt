@@ -1,13 +1,14 @@
 -- What the server did, the newest first: steps of the desk, what went to the sockets, and waiting.
 -- Source: this project.
 use Rattle.std.specs.FinMap.{get, len}
-use Rattle.std.specs.Prelude.{◌≡◌, ◌==◌, ◌<◌, ◌-◌, ◌↔◌, ℕ, suc, Bool, true, false, List, [], ◌∷◌, ◌++◌, Option, Result, Ok, Err, if◌then◌else◌}
+use Rattle.std.specs.Prelude.{◌≡◌, ◌==◌, ◌<◌, ◌-◌, ◌↔◌, ℕ, suc, Bool, true, false, List, [], ◌∷◌, ◌++◌, Result, Ok, Err, if◌then◌else◌}
 use Rattle.osm_desk.specs.Desks.{Desk, step}
 use Rattle.osm_desk.specs.Happenings.{Happening, arrived, ended, opened, published}
 use Rattle.osm_desk.specs.OneConnection.{rest_if}
 use Rattle.osm_desk.specs.Runs.{Done, IsRefusedBy}
-use Rattle.osm_desk.specs.Stepping.{GivesWithin}
+use Rattle.osm_desk.specs.Stepping.{GivesOn}
 use Rattle.osm_gate.specs.Serving.{no_memory}
+use Rattle.osm_gate.specs.Terms.{Terms}
 use Rattle.osm_keys.specs.Publications.{Publication}
 use Rattle.osm_desk.specs.declared.desk_fault.DeskFault.{DeskFault}
 use Rattle.osm_desk.specs.declared.limits.TheConstants.{CONNECTION_LIMIT}
@@ -50,16 +51,15 @@ desk_after d (parted n whole ∷ before) = desk_after d before
 desk_after d (lost n ∷ before) = desk_after d before
 desk_after d (waited room ∷ before) = desk_after d before
 
--- each answer is one that the step may give, where there may be a budget for each query, and a refusal is the step's own, or
--- memory ran out
-abbrev pub Runs : Option ℕ → Desk → List Deed → Type 0
-Runs most d [] = Unit {0}
-Runs most d (stepped h (Ok answers) ∷ before) = GivesWithin most (step (desk_after d before) h).reply answers × Runs most d before
-Runs most d (stepped h (Err fault) ∷ before) = IsRefusedBy (desk_after d before) h fault × Runs most d before
-Runs most d (handed n bytes ∷ before) = Runs most d before
-Runs most d (parted n whole ∷ before) = Runs most d before
-Runs most d (lost n ∷ before) = Runs most d before
-Runs most d (waited room ∷ before) = Runs most d before
+-- each answer is one that the step may give on these terms, and a refusal is the step's own, or memory ran out
+abbrev pub Runs : Terms → Desk → List Deed → Type 0
+Runs terms d [] = Unit {0}
+Runs terms d (stepped h (Ok answers) ∷ before) = GivesOn terms (step (desk_after d before) h).reply answers × Runs terms d before
+Runs terms d (stepped h (Err fault) ∷ before) = IsRefusedBy (desk_after d before) h fault × Runs terms d before
+Runs terms d (handed n bytes ∷ before) = Runs terms d before
+Runs terms d (parted n whole ∷ before) = Runs terms d before
+Runs terms d (lost n ∷ before) = Runs terms d before
+Runs terms d (waited room ∷ before) = Runs terms d before
 
 -- what the socket of connection c took
 abbrev pub sent : ℕ → List Deed → List ℕ
@@ -226,10 +226,10 @@ AreSingle d (parted n whole ∷ before) = AreSingle d before
 AreSingle d (lost n ∷ before) = AreSingle d before
 AreSingle d (waited room ∷ before) = AreSingle d before
 
--- what the server did is a run of the desk, where there may be a budget for each query, and so many connections are wanted
-pub record Serves (most : Option ℕ) (wanted : ℕ) (d : Desk) (deeds : List Deed) : Type 0 where
+-- what the server did is a run of the desk, where queries are answered on these terms, and so many connections are wanted
+pub record Serves (terms : Terms) (wanted : ℕ) (d : Desk) (deeds : List Deed) : Type 0 where
   -- each step is one that the desk may make,
-  pub ran : Runs most d deeds
+  pub ran : Runs terms d deeds
   -- each socket has taken a beginning of what its connection has coming,
   pub fronts : (c : ℕ) → (rest : List ℕ) × (sent c deeds ++ rest ≡ owed c deeds)
   -- and all of it where the connection is read on, or let go as a whole one,

@@ -4,6 +4,7 @@ ghost use Rattle.std.specs.FinMap.{get};
 ghost use Rattle.std.specs.Prelude.{◌≡◌, ◌≤◌, ℕ, IsSome, IsTrue, List, Option, Some, [], length};
 ghost use Rattle.osm_desk.specs.OneConnection.{rest_of};
 ghost use Rattle.osm_gate.specs.Pieces.{CompletesOne, IsCut, IsWanted};
+ghost use Rattle.osm_gate.specs.Terms.{terms_of};
 ghost use Rattle.osm_traffic.specs.Entries.{Entry, noted, brought};
 ghost use Rattle.osm_traffic.specs.internal.Standing.{Keeps};
 
@@ -13,13 +14,13 @@ use crate::outputs::Outputs;
 use crate::traffic::{Reading, Traffic};
 use crate::writing::hand;
 use osm_desk::Desk;
-use osm_gate::GateFault;
+use osm_gate::{GateFault, Mirror};
 use std::io::Write;
 
 /// Reads a piece of a connection that has nothing coming any more, and answers it, where each query has the budget, or none.
 /// No more is read than is wanted, so the piece completes one request at most.
-pub(crate) fn listen<T: Traffic, E: Write>(
-    desk: &mut Desk,
+pub(crate) fn listen<M: Mirror, T: Traffic, E: Write>(
+    desk: &mut Desk<M>,
     outputs: &mut Outputs,
     traffic: &mut T,
     errors: &mut E,
@@ -27,9 +28,9 @@ pub(crate) fn listen<T: Traffic, E: Write>(
     piece: &mut [u8],
     most: Option<u64>,
 )
-    ensures kept { Keeps most (T.log traffic.old) (T.log traffic.new)
-        outputs.old outputs.new desk.old desk.new }
-    ensures snapshot { desk.new.snapshot ≡ desk.old.snapshot }
+    ensures kept { Keeps M.holds (terms_of most M.may_fail)
+        (T.log traffic.old) (T.log traffic.new) outputs.old outputs.new desk.old desk.new }
+    ensures mirror { desk.new.mirror ≡ desk.old.mirror }
 {
     if !may_read(desk, outputs, number) {
         return;
@@ -58,7 +59,7 @@ fn room_for(wanted: usize, room: usize) -> usize
 }
 
 /// Whether the connection is open and has nothing coming.
-fn may_read(desk: &Desk, outputs: &Outputs, number: u32) -> bool
+fn may_read<M: Mirror>(desk: &Desk<M>, outputs: &Outputs, number: u32) -> bool
     ensures idle { IsTrue result → get outputs.now number ≡ Some [] }
     ensures open { IsTrue result → IsSome (get desk.now.connections number) }
 {
@@ -69,8 +70,8 @@ fn may_read(desk: &Desk, outputs: &Outputs, number: u32) -> bool
 }
 
 /// Takes a piece that was read.
-fn hear<E: Write>(
-    desk: &mut Desk,
+fn hear<M: Mirror, E: Write>(
+    desk: &mut Desk<M>,
     outputs: &mut Outputs,
     errors: &mut E,
     number: u32,
@@ -82,9 +83,9 @@ fn hear<E: Write>(
     requires cut { IsCut piece.now }
     requires single { CompletesOne (rest_of desk.old number) piece.now }
     ensures kept { (log : Option (List Entry))
-        → Keeps most log (noted (brought number piece.now) log)
+        → Keeps M.holds (terms_of most M.may_fail) log (noted (brought number piece.now) log)
         outputs.old outputs.new desk.old desk.new }
-    ensures snapshot { desk.new.snapshot ≡ desk.old.snapshot }
+    ensures mirror { desk.new.mirror ≡ desk.old.mirror }
 {
     let Ok(text) = desk.hear_within(number, piece, most) else {
         tell(errors, GateFault::Memory);

@@ -5,7 +5,7 @@ ghost use Rattle.std.specs.Prelude.{◌≡◌, ◌<◌, ◌↔◌, ◌+◌, ◌+
 ghost use Rattle.osm_desk.specs.Contents.{StandsFor};
 ghost use Rattle.osm_desk.specs.Desks.{fresh};
 ghost use Rattle.osm_keys.specs.Publications.{Publication};
-ghost use Rattle.osm_index.specs.Snapshots.{HoldsPublication};
+ghost use Rattle.osm_gate.specs.Terms.{terms_of};
 ghost use Rattle.osm_traffic.specs.Deeds.{Deed, Serves, arrivals, desk_after, log_of};
 ghost use Rattle.osm_traffic.specs.Entries.{Entry};
 ghost use Rattle.osm_desk.specs.Published.{TakesFound};
@@ -19,6 +19,7 @@ use crate::traffic_fault::TrafficFault;
 use crate::welcome::welcome;
 use crate::writing::hand;
 use osm_desk::{CONNECTION_LIMIT, Desk, Lookout};
+use osm_gate::Mirror;
 use std::alloc::Global;
 use std::io::Write;
 
@@ -31,16 +32,17 @@ const PIECE_LIMIT: usize = 8192;
 /// that it is time. A connection that ends badly is told in one line of `errors` (`G1` to `G3`), and leaves the others.
 ///
 /// A query that passes the budget, where there is one, is answered with 503 `too much work`, and its connection goes on
-/// as after an answer. What is counted says `ql_eval::evaluate_within`.
+/// as after an answer. What is counted says `ql_eval::evaluate_within`. Where the nodes of the desk's mirror are read from a
+/// device, a query that reads may be answered with 500 `device`, and its connection goes on, too.
 ///
 /// # Errors
 ///
 /// `Device` where the traffic can't be waited at, or gives no further connection. `Memory` where memory runs out for a
 /// connection that comes, or at the traffic. `Endless` after 2^64 happenings. The connections that are open then get
 /// nothing more.
-pub fn serve_many<L: Lookout, T: Traffic, E: Write>(
+pub fn serve_many<M: Mirror, L: Lookout<M>, T: Traffic, E: Write>(
     alloc: Global,
-    desk: &mut Desk,
+    desk: &mut Desk<M>,
     lookout: &mut L,
     traffic: &mut T,
     connections: u32,
@@ -49,15 +51,15 @@ pub fn serve_many<L: Lookout, T: Traffic, E: Write>(
 ) -> Result<(), TrafficFault>
     requires { desk.old.connections ≡ empty }
     // Whatever happens, in whatever order, what went in and out is what a run of the desk says.
-    ensures served { (p : Publication) (base : List Entry) → HoldsPublication desk.old.snapshot p
+    ensures served { (p : Publication) (base : List Entry) → M.holds desk.old.mirror p
         → T.log traffic.old ≡ Some base
         → (deeds : List Deed) × (T.log traffic.new ≡ Some (log_of deeds ++ base))
-        × Serves most connections (fresh p) deeds
-        × StandsFor desk.new (desk_after (fresh p) deeds)
+        × Serves (terms_of most M.may_fail) connections (fresh p) deeds
+        × StandsFor M.holds desk.new (desk_after (fresh p) deeds)
         × OnOk result (arrivals deeds ≡ connections) }
     // What is in force has been made by what the lookout found, one after the other, but what was refused.
     ensures found { TakesFound (L.found lookout.old) (L.found lookout.new)
-        desk.old.snapshot desk.new.snapshot }
+        (M.holds desk.old.mirror) (M.holds desk.new.mirror) }
     ensures none_open { OnOk result (desk.new.connections ≡ empty) }
 {
     let mut outputs = Outputs::new(alloc);
@@ -88,7 +90,7 @@ pub fn serve_many<L: Lookout, T: Traffic, E: Write>(
 }
 
 /// Whether a further connection may be taken: where one is wanted, and fewer than 64 are open.
-fn room_for(desk: &Desk, outputs: &Outputs, taken: u32, connections: u32) -> Room
+fn room_for<M: Mirror>(desk: &Desk<M>, outputs: &Outputs, taken: u32, connections: u32) -> Room
     ensures { (result ≡ Room.Free)
         ↔ ((taken < connections) × (len outputs.now < CONNECTION_LIMIT)
         × (len desk.now.connections < CONNECTION_LIMIT)) }
@@ -103,7 +105,7 @@ fn room_for(desk: &Desk, outputs: &Outputs, taken: u32, connections: u32) -> Roo
 }
 
 /// Whether fewer than 64 connections are open.
-fn has_room(desk: &Desk, outputs: &Outputs) -> bool
+fn has_room<M: Mirror>(desk: &Desk<M>, outputs: &Outputs) -> bool
     ensures { IsTrue result ↔ ((len outputs.now < CONNECTION_LIMIT)
         × (len desk.now.connections < CONNECTION_LIMIT)) }
 {
@@ -111,8 +113,8 @@ fn has_room(desk: &Desk, outputs: &Outputs) -> bool
 }
 
 /// Does what is next, and tells whether a connection has come.
-fn turn<L: Lookout, T: Traffic, E: Write>(
-    desk: &mut Desk,
+fn turn<M: Mirror, L: Lookout<M>, T: Traffic, E: Write>(
+    desk: &mut Desk<M>,
     lookout: &mut L,
     outputs: &mut Outputs,
     traffic: &mut T,
@@ -125,14 +127,14 @@ fn turn<L: Lookout, T: Traffic, E: Write>(
 ) -> Result<bool, TrafficFault>
     requires room { room ≡ Room.Free → len desk.old.connections < CONNECTION_LIMIT }
     ensures stands { IfOk result
-        (λ is. Moves most (T.log traffic.old) (T.log traffic.new)
-        outputs.old outputs.new desk.old desk.new
+        (λ is. Moves M.holds (terms_of most M.may_fail)
+        (T.log traffic.old) (T.log traffic.new) outputs.old outputs.new desk.old desk.new
         number (if is then number + 1 else number)) }
-    ensures refused { OnErr result (Stops most (T.log traffic.old) (T.log traffic.new)
-        outputs.old outputs.new desk.old desk.new number) }
+    ensures refused { OnErr result (Stops M.holds (terms_of most M.may_fail)
+        (T.log traffic.old) (T.log traffic.new) outputs.old outputs.new desk.old desk.new number) }
     ensures only_room { IfOk result (λ is. is ≡ true → room ≡ Room.Free) }
     ensures found { TakesFound (L.found lookout.old) (L.found lookout.new)
-        desk.old.snapshot desk.new.snapshot }
+        (M.holds desk.old.mirror) (M.holds desk.new.mirror) }
 {
     match news {
         News::Waiting => match room {

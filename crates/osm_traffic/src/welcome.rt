@@ -1,7 +1,8 @@
 //! Connections that come.
 
 ghost use Rattle.std.specs.FinMap.{len};
-ghost use Rattle.std.specs.Prelude.{◌≡◌, ◌<◌, ◌+◌, ℕ, IfOk, List, OnErr, Option, if◌then◌else◌};
+ghost use Rattle.std.specs.Prelude.{◌≡◌, ◌<◌, ◌+◌, IfOk, List, OnErr, Option, if◌then◌else◌};
+ghost use Rattle.osm_gate.specs.Terms.{Terms};
 ghost use Rattle.osm_traffic.specs.Entries.{Entry, noted, came};
 ghost use Rattle.osm_desk.specs.Published.{TakesFound};
 ghost use Rattle.osm_traffic.specs.internal.Standing.{Moves, Stops};
@@ -13,13 +14,13 @@ use crate::traffic::Traffic;
 use crate::traffic_fault::TrafficFault;
 use crate::writing::hand;
 use osm_desk::{CONNECTION_LIMIT, Desk, Lookout};
-use osm_gate::GateFault;
+use osm_gate::{GateFault, Mirror};
 use std::alloc::AllocError;
 use std::io::Write;
 
 /// Takes the connection that waits, under this number, and tells whether there was one.
-pub(crate) fn welcome<L: Lookout, T: Traffic, E: Write>(
-    desk: &mut Desk,
+pub(crate) fn welcome<M: Mirror, L: Lookout<M>, T: Traffic, E: Write>(
+    desk: &mut Desk<M>,
     lookout: &mut L,
     outputs: &mut Outputs,
     traffic: &mut T,
@@ -27,14 +28,14 @@ pub(crate) fn welcome<L: Lookout, T: Traffic, E: Write>(
     number: u32,
 ) -> Result<bool, TrafficFault>
     requires room { len desk.old.connections < CONNECTION_LIMIT }
-    ensures stands { (most : Option ℕ) → IfOk result
-        (λ is. Moves most (T.log traffic.old) (T.log traffic.new)
+    ensures stands { (terms : Terms) → IfOk result
+        (λ is. Moves M.holds terms (T.log traffic.old) (T.log traffic.new)
         outputs.old outputs.new desk.old desk.new
         number (if is then number + 1 else number)) }
-    ensures refused { (most : Option ℕ) → OnErr result (Stops most (T.log traffic.old) (T.log traffic.new)
-        outputs.old outputs.new desk.old desk.new number) }
+    ensures refused { (terms : Terms) → OnErr result (Stops M.holds terms
+        (T.log traffic.old) (T.log traffic.new) outputs.old outputs.new desk.old desk.new number) }
     ensures found { TakesFound (L.found lookout.old) (L.found lookout.new)
-        desk.old.snapshot desk.new.snapshot }
+        (M.holds desk.old.mirror) (M.holds desk.new.mirror) }
 {
     if !traffic.take(number)? {
         return Ok(false);
@@ -50,17 +51,17 @@ pub(crate) fn welcome<L: Lookout, T: Traffic, E: Write>(
 
 /// Opens a connection that was taken. Where the desk has no memory for it, that is what it is told. Refused where memory
 /// runs out for what it has coming.
-fn open<E: Write>(
-    desk: &mut Desk,
+fn open<M: Mirror, E: Write>(
+    desk: &mut Desk<M>,
     outputs: &mut Outputs,
     errors: &mut E,
     number: u32,
 ) -> Result<(), AllocError>
     requires room { len desk.old.connections < CONNECTION_LIMIT }
-    ensures stands { (most : Option ℕ) (log : Option (List Entry))
-        → Moves most log (noted (came number) log) outputs.old outputs.new desk.old desk.new
+    ensures stands { (terms : Terms) (log : Option (List Entry))
+        → Moves M.holds terms log (noted (came number) log) outputs.old outputs.new desk.old desk.new
         number (number + 1) }
-    ensures snapshot { desk.new.snapshot ≡ desk.old.snapshot }
+    ensures mirror { desk.new.mirror ≡ desk.old.mirror }
 {
     outputs.add(number)?;
     let Err(_) = desk.open(number) else {

@@ -1,7 +1,8 @@
 //! What goes out.
 
 ghost use Rattle.std.specs.FinMap.{get};
-ghost use Rattle.std.specs.Prelude.{◌≡◌, ◌<◌, ℕ, IsTrue, Option, length};
+ghost use Rattle.std.specs.Prelude.{◌≡◌, ◌<◌, IsTrue, length};
+ghost use Rattle.osm_gate.specs.Terms.{Terms};
 ghost use Rattle.osm_traffic.specs.internal.Standing.{Keeps};
 ghost use Rattle.osm_traffic.specs.internal.Texts.{coming};
 
@@ -9,37 +10,37 @@ use crate::leaving::{break_off, part};
 use crate::outputs::Outputs;
 use crate::traffic::{Traffic, Writing};
 use osm_desk::Desk;
-use osm_gate::GateFault;
+use osm_gate::{GateFault, Mirror};
 use std::io::Write;
 
 /// Gives a connection what it has coming, a chunk after the other, as far as its socket takes it. The connection ends
 /// where that was its last and all is taken, or where it is broken.
-pub(crate) fn hand<T: Traffic, E: Write>(
-    desk: &mut Desk,
+pub(crate) fn hand<M: Mirror, T: Traffic, E: Write>(
+    desk: &mut Desk<M>,
     outputs: &mut Outputs,
     traffic: &mut T,
     errors: &mut E,
     number: u32,
 )
-    ensures kept { (most : Option ℕ) → Keeps most (T.log traffic.old) (T.log traffic.new)
+    ensures kept { (terms : Terms) → Keeps M.holds terms (T.log traffic.old) (T.log traffic.new)
         outputs.old outputs.new desk.old desk.new }
-    ensures snapshot { desk.new.snapshot ≡ desk.old.snapshot }
+    ensures mirror { desk.new.mirror ≡ desk.old.mirror }
 {
     'chunks: while hand_chunk(desk, outputs, traffic, errors, number) {}
 }
 
 /// Gives a connection the first chunk of what it has coming, and tells whether its socket took all of the chunk, so that
 /// it may take another. Where nothing is left and that was its last, the connection ends.
-fn hand_chunk<T: Traffic, E: Write>(
-    desk: &mut Desk,
+fn hand_chunk<M: Mirror, T: Traffic, E: Write>(
+    desk: &mut Desk<M>,
     outputs: &mut Outputs,
     traffic: &mut T,
     errors: &mut E,
     number: u32,
 ) -> bool
-    ensures kept { (most : Option ℕ) → Keeps most (T.log traffic.old) (T.log traffic.new)
+    ensures kept { (terms : Terms) → Keeps M.holds terms (T.log traffic.old) (T.log traffic.new)
         outputs.old outputs.new desk.old desk.new }
-    ensures snapshot { desk.new.snapshot ≡ desk.old.snapshot }
+    ensures mirror { desk.new.mirror ≡ desk.old.mirror }
     ensures fewer { IsTrue result → length (coming (get outputs.new number))
         < length (coming (get outputs.old number)) }
 {

@@ -4,15 +4,16 @@ ghost use Rattle.std.specs.FinMap.{empty};
 ghost use Rattle.std.specs.Prelude.{◌≡◌, IfOk};
 
 mod budgets;
+mod devices;
+mod faulty_device;
 mod memory;
 mod network;
 mod orders;
-mod quiet;
 
 use crate::tests::network::Network;
-use crate::tests::quiet::Quiet;
 use opl_codec::read_set;
-use osm_desk::Desk;
+use osm_desk::{Desk, NoLookout};
+use osm_gate::Mirror;
 use osm_index::{Edition, Snapshot};
 use osm_traffic::{TrafficFault, serve_many};
 use std::alloc::Global;
@@ -30,18 +31,23 @@ GET /api/interpreter?data=node( HTTP/1.1\n\n\
 POST /api/interpreter HTTP/1.1\r\nContent-Length: 24\r\nConnection: close\r\n\r\nnode(2);way(bn);out ids;\
 GET /x HTTP/1.1\r\n\r\n";
 
+/// A snapshot of the set, in this edition.
+fn snapshot_in(alloc: Global, edition: Edition) -> Result<Snapshot, Fail> {
+    let set = read_set(alloc, &mut SET.as_bytes())?;
+    Ok(Snapshot::build(alloc, set, edition)?)
+}
+
 /// A desk over the set, in this edition.
-fn desk_over(alloc: Global, edition: Edition) -> Result<Desk, Fail>
+fn desk_over(alloc: Global, edition: Edition) -> Result<Desk<Snapshot>, Fail>
     ensures { IfOk result (λ desk. desk.connections ≡ empty) }
 {
-    let set = read_set(alloc, &mut SET.as_bytes())?;
-    Ok(Desk::new(alloc, Snapshot::build(alloc, set, edition)?))
+    Ok(Desk::new(alloc, snapshot_in(alloc, edition)?))
 }
 
 /// Serves so many connections of a network, whose queries have a budget, or none.
-fn serve(
+fn serve<M: Mirror>(
     alloc: Global,
-    desk: &mut Desk,
+    desk: &mut Desk<M>,
     network: &mut Network,
     connections: u32,
     most: Option<u64>,
@@ -52,7 +58,7 @@ fn serve(
     serve_many(
         alloc,
         desk,
-        &mut Quiet,
+        &mut NoLookout,
         network,
         connections,
         most,

@@ -7,7 +7,7 @@ use super::ALL_KINDS;
 use super::serving::Inputs;
 use osm_commands::{CommandFault, read_snapshot};
 use osm_desk::Desk;
-use osm_index::{Edition, Unwatched};
+use osm_index::{Edition, Snapshot, Unwatched};
 use osm_serving::{ChangeSource, serve_desk};
 use std::alloc::{AllocError, Global};
 use std::collections::VecDeque;
@@ -92,7 +92,7 @@ fn site_of(alloc: Global, says: &[Found], number: u32) -> Result<Site, AllocErro
 }
 
 /// A desk over the set of all kinds at this sequence.
-fn desk_at(alloc: Global, sequence: u64) -> Result<Desk, Fail>
+fn desk_at(alloc: Global, sequence: u64) -> Result<Desk<Snapshot>, Fail>
     ensures { IfOk result (λ desk. desk.connections ≡ empty) }
 {
     let snapshot = read_snapshot(
@@ -105,7 +105,12 @@ fn desk_at(alloc: Global, sequence: u64) -> Result<Desk, Fail>
 }
 
 /// Serves this number of connections at the desk.
-fn serve_at(alloc: Global, desk: &mut Desk, site: &mut Site, number: u32) -> Result<(), Fail>
+fn serve_at(
+    alloc: Global,
+    desk: &mut Desk<Snapshot>,
+    site: &mut Site,
+    number: u32,
+) -> Result<(), Fail>
     requires { desk.old.connections ≡ empty }
 {
     serve_desk(

@@ -3,7 +3,7 @@
 use super::{ALL_KINDS, WITHOUT_N1, desk_of, root_of, snapshot_of};
 use opl_codec::read_changes;
 use osm_desk::Desk;
-use osm_index::{AnnouncedFault, ApplyFault};
+use osm_index::{AnnouncedFault, ApplyFault, Snapshot};
 use osm_model::{Kind, Ref};
 use std::alloc::Global;
 use std::process::Abort;
@@ -16,7 +16,7 @@ const DELETE_N1: &str = "n1 dD\n";
 /// none of those of the desk.
 fn publish(
     alloc: Global,
-    desk: &mut Desk,
+    desk: &mut Desk<Snapshot>,
     changes: &str,
     announced: &[u8],
 ) -> Result<Option<AnnouncedFault>, Fail> {
@@ -30,7 +30,7 @@ fn root_without_n1(alloc: Global) -> Result<String, Fail> {
 }
 
 /// Whether the root in force has these digits.
-fn has_root(alloc: Global, desk: &Desk, digits: &str) -> Result<bool, Fail> {
+fn has_root(alloc: Global, desk: &Desk<Snapshot>, digits: &str) -> Result<bool, Fail> {
     Ok(root_of(alloc, desk.snapshot())?.as_str() == digits)
 }
 

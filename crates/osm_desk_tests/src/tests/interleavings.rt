@@ -37,7 +37,7 @@ impl Numbers {
 /// The desk, and what stands beside it.
 #[derive(Drop)]
 struct Beside {
-    desk: Desk,
+    desk: Desk<Snapshot>,
     gates: BTreeMap<u32, Gate>,
     snapshot: Snapshot,
     /// Whether there is n1, and whether there is n2.

@@ -6,6 +6,7 @@ use super::serving::{both, serve_on};
 use super::{ALL_KINDS, ASKED, RESPONSE, arrival, desk_of, gives_nothing, publication, step};
 use osm_desk::{Desk, DeskFault, Event};
 use osm_gate::GateFault;
+use osm_index::Snapshot;
 use std::process::Abort;
 use std::test::Fail;
 use test_devices::SlowReader;
@@ -21,7 +22,7 @@ no memory\n";
 /// Whether an event gives these answers; out of memory the desk is as before, and takes it again.
 fn step_twice(
     rt: &impl Abort,
-    desk: &mut Desk,
+    desk: &mut Desk<Snapshot>,
     event: Event,
     again: Event,
 ) -> Result<Vec<(u32, Vec<u8>)>, DeskFault> {
@@ -37,7 +38,7 @@ fn step_twice(
 }
 
 /// Takes an event that gives nothing, perhaps twice.
-fn gives_nothing_twice(rt: &impl Abort, desk: &mut Desk, event: Event, again: Event) {
+fn gives_nothing_twice(rt: &impl Abort, desk: &mut Desk<Snapshot>, event: Event, again: Event) {
     match step_twice(rt, desk, event, again) {
         Ok(answers) => assert!(rt; answers.is_empty()),
         Err(fault) => assert_eq!(rt; fault, DeskFault::Memory),
@@ -47,7 +48,7 @@ fn gives_nothing_twice(rt: &impl Abort, desk: &mut Desk, event: Event, again: Ev
 /// Takes a piece, perhaps twice, and gets these bytes.
 fn hears_twice(
     rt: &(impl Abort + AllocGlobal),
-    desk: &mut Desk,
+    desk: &mut Desk<Snapshot>,
     piece: &[u8],
     bytes: &[u8],
 ) -> Result<(), Fail> {
@@ -62,7 +63,7 @@ fn hears_twice(
 }
 
 /// Deletes n1, perhaps twice.
-fn publishes_twice(rt: &(impl Abort + AllocGlobal), desk: &mut Desk) -> Result<(), Fail> {
+fn publishes_twice(rt: &(impl Abort + AllocGlobal), desk: &mut Desk<Snapshot>) -> Result<(), Fail> {
     let event = publication(rt.alloc(), "n1 dD\n")?;
     let again = publication(rt.alloc(), "n1 dD\n")?;
     gives_nothing_twice(rt, desk, event, again);
@@ -84,7 +85,11 @@ fn steps_within_memory(rt: HostRuntime) -> Result<(), Fail> {
 }
 
 /// Serves two requests, a piece each: out of memory what was read before has its response, and then comes the fixed one.
-fn serves(rt: &(impl Abort + AllocGlobal), desk: &mut Desk, input: &[u8]) -> Result<(), Fail> {
+fn serves(
+    rt: &(impl Abort + AllocGlobal),
+    desk: &mut Desk<Snapshot>,
+    input: &[u8],
+) -> Result<(), Fail> {
     let mut reader = SlowReader {
         left: input,
         at_once: ASKED.len(),

@@ -15,7 +15,7 @@ use std::test::Fail;
 /// Whether this event is refused with this text.
 fn is_refused(
     rt: &(impl Abort + AllocGlobal),
-    desk: &mut Desk,
+    desk: &mut Desk<Snapshot>,
     event: Event,
     text: &str,
 ) -> Result<(), Fail> {
@@ -28,7 +28,7 @@ fn is_refused(
 }
 
 /// Opens the connections of these numbers.
-fn opens(rt: &impl Abort, desk: &mut Desk, first: u32, after: u32) {
+fn opens(rt: &impl Abort, desk: &mut Desk<Snapshot>, first: u32, after: u32) {
     for number in first..after {
         assert!(rt; gives_nothing(desk, Event::Open(number)));
     }

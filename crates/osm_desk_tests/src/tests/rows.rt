@@ -5,6 +5,7 @@ use super::{
     snapshot_of,
 };
 use osm_desk::{Desk, Event};
+use osm_index::Snapshot;
 use std::alloc::Global;
 use std::process::Abort;
 use std::test::Fail;
@@ -21,7 +22,7 @@ pub(super) fn without_n1(alloc: Global) -> Result<String, Fail> {
 /// Sends half a request for n1, deletes n1, and sends the other half.
 fn check_cut(
     rt: &(impl Abort + AllocGlobal),
-    desk: &mut Desk,
+    desk: &mut Desk<Snapshot>,
     with_another: bool,
 ) -> Result<(), Fail> {
     let alloc = rt.alloc();

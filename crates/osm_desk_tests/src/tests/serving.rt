@@ -3,6 +3,7 @@
 use super::{ALL_KINDS, ASKED, RESPONSE, desk_of, gives_nothing, hears};
 use osm_desk::{Desk, Event};
 use osm_gate::GateFault;
+use osm_index::Snapshot;
 use std::alloc::Global;
 use std::io::{Read, Write};
 use std::process::Abort;
@@ -29,7 +30,7 @@ pub(super) fn both(alloc: Global, first: &[u8], second: &[u8]) -> Result<Vec<u8>
 
 /// Serves a connection, where the number is free and there is room.
 pub(super) fn serve_on<R: Read, W: Write>(
-    desk: &mut Desk,
+    desk: &mut Desk<Snapshot>,
     number: u32,
     reader: &mut R,
     writer: &mut W,
@@ -41,7 +42,7 @@ pub(super) fn serve_on<R: Read, W: Write>(
 }
 
 /// A desk on which connection 1 has sent half a request.
-fn with_half(rt: &(impl Abort + AllocGlobal)) -> Result<Desk, Fail> {
+fn with_half(rt: &(impl Abort + AllocGlobal)) -> Result<Desk<Snapshot>, Fail> {
     let mut desk = desk_of(rt.alloc(), ALL_KINDS)?;
     let (first, _) = ASKED.split_at(40);
     assert!(rt; gives_nothing(&mut desk, Event::Open(1)));
@@ -50,7 +51,7 @@ fn with_half(rt: &(impl Abort + AllocGlobal)) -> Result<Desk, Fail> {
 }
 
 /// Whether connection 2 is forgotten, and connection 1 goes on.
-fn is_as_before(alloc: Global, desk: &mut Desk) -> Result<bool, Fail> {
+fn is_as_before(alloc: Global, desk: &mut Desk<Snapshot>) -> Result<bool, Fail> {
     let (_, second) = ASKED.split_at(40);
     Ok(!desk.is_open(2) && hears(alloc, desk, 1, second, RESPONSE)?)
 }

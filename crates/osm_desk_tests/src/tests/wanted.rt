@@ -2,11 +2,17 @@
 
 use super::{ALL_KINDS, desk_of};
 use osm_desk::Desk;
+use osm_index::Snapshot;
 use std::process::Abort;
 use std::test::Fail;
 
 /// Takes a piece, after which so many bytes are wanted.
-fn wants(rt: &impl Abort, desk: &mut Desk, piece: &[u8], wanted: usize) -> Result<(), Fail> {
+fn wants(
+    rt: &impl Abort,
+    desk: &mut Desk<Snapshot>,
+    piece: &[u8],
+    wanted: usize,
+) -> Result<(), Fail> {
     desk.hear(7, piece)?;
     assert_eq!(rt; desk.wanted(7), wanted);
     Ok(())

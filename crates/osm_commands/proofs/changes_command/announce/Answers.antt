@@ -24,14 +24,14 @@ returns-in_err-read-clause-refused c = λ p holds.
 
 pub returns-in_err-publish-clause-only : goal.returns-in_err-publish-clause-only
 returns-in_err-publish-clause-only c = λ p holds all are.
-    let there = subst (λ (d : Contents). HoldsPublication d.snapshot p) (sym c.new-desk.ensures) holds in
+    let there = subst (λ (d : Contents Snapshot). HoldsPublication d.mirror p) (sym c.new-desk.ensures) holds in
     outside_applying p c.in_ok-read.read.changes.items c.deref.result.now all c.in_err-publish.field-0.0 c.from_residual-in_err-publish.result c.deref.ensures.value
     (c.in_ok-read.ensures.only all (subst (λ (t : List ℕ). HoldsChanges t all) (sym c.as_slice-reader.ensures.value) are))
     c.from_residual-in_err-publish.ensures.1 (c.in_err-publish.ensures.refused p there)
 
 pub returns-in_err-publish-clause-refused : goal.returns-in_err-publish-clause-refused
 returns-in_err-publish-clause-refused c = λ p holds.
-    let there = subst (λ (d : Contents). HoldsPublication d.snapshot p) (sym c.new-desk.ensures) holds in
+    let there = subst (λ (d : Contents Snapshot). HoldsPublication d.mirror p) (sym c.new-desk.ensures) holds in
     let changes = c.in_ok-read.read.changes.items in
     explained_applying c.args.text.items p changes c.deref.result.now c.in_err-publish.field-0.0 c.from_residual-in_err-publish.result c.deref.ensures.value
     c.from_residual-in_err-publish.ensures.1
@@ -51,7 +51,7 @@ returns-in_err-text-clause-refused c = λ p holds. explained_memory c.args.text.
 
 pub returns-clause-made : goal.returns-clause-made
 returns-clause-made c = λ p holds.
-    let there = subst (λ (d : Contents). HoldsPublication d.snapshot p) (sym c.new-desk.ensures) holds in
+    let there = subst (λ (d : Contents Snapshot). HoldsPublication d.mirror p) (sym c.new-desk.ensures) holds in
     let changes = c.in_ok-read.read.changes.items in
     let (q, made, now) = c.in_ok-publish.ensures.made p there in
     let line = c.in_ok-line.ensures

@@ -12,9 +12,9 @@ abbrev pub invariant-loop-taken : goal.invariant-loop-taken
 invariant-loop-taken g l = record {
   few : l.taken ≤ l.connections;
   accepted : IfSome (g.L.Listener.accepted l.initial.listener) (λ n. g.L.Listener.accepted l.listener ≡ Some (n + l.taken));
-  reached : (p : Publication) → HoldsPublication l.initial.desk.snapshot p → (q : Publication) × HoldsPublication l.desk.snapshot q × IsReachedBy l.taken p q;
+  reached : (p : Publication) → HoldsPublication l.initial.desk.mirror p → (q : Publication) × HoldsPublication l.desk.mirror q × IsReachedBy l.taken p q;
   asked : IfSome (g.C.ChangeSource.asked l.initial.source) (λ before. (more : List ℕ) × (g.C.ChangeSource.asked l.source ≡ Some (more ++ before)) × (length more ≤ l.taken));
-  found : TakesFound (g.C.ChangeSource.found l.initial.source) (g.C.ChangeSource.found l.source) l.initial.desk.snapshot l.desk.snapshot;
+  found : TakesFound (g.C.ChangeSource.found l.initial.source) (g.C.ChangeSource.found l.source) (HoldsPublication l.initial.desk.mirror) (HoldsPublication l.desk.mirror);
   none_open : l.desk.connections ≡ empty;
 }
 

@@ -8,31 +8,31 @@ use Rattle.osm_traffic.proofs.PastLemmas.{hushed_past, paced_past, room_past, ru
 use Rattle.osm_traffic.proofs.laws.each_is_handed_its_own.Goals as goal
 
 pub returns-clause-own : goal.returns-clause-own
-returns-clause-own c = λ most n wanted p deeds s. (
+returns-clause-own c = λ terms n wanted p deeds s. (
   got n (in_order deeds),
-  c.runs_tell_each_its_own.ensures.within most n (in_order deeds) p (ran_in_order most (fresh p) deeds s.ran) (finds_in_order most n (fresh p) deeds s.ran s.room),
-  handed_own most n wanted (fresh p) deeds s,
+  c.runs_tell_each_its_own.ensures.on_terms terms n (in_order deeds) p (ran_in_order terms (fresh p) deeds s.ran) (finds_in_order terms n (fresh p) deeds s.ran s.room),
+  handed_own terms n wanted (fresh p) deeds s,
 )
 
 pub returns-clause-whole : goal.returns-clause-whole
-returns-clause-whole c = λ most n wanted p after before s.
-    let runs = runs_past most (fresh p) after (parted n true ∷ before) s.ran in
+returns-clause-whole c = λ terms n wanted p after before s.
+    let runs = runs_past terms (fresh p) after (parted n true ∷ before) s.ran in
     let room = room_past (fresh p) after (parted n true ∷ before) s.room in
     let hushed = hushed_past after (parted n true ∷ before) s.hushed in
     let paced = paced_past after (parted n true ∷ before) s.paced in (
       got n (in_order before),
-      c.runs_tell_each_its_own.ensures.within most n (in_order before) p (ran_in_order most (fresh p) before runs) (finds_in_order most n (fresh p) before runs room),
-      paced.0 ∙ owed_joined most n (fresh p) before runs hushed,
+      c.runs_tell_each_its_own.ensures.on_terms terms n (in_order before) p (ran_in_order terms (fresh p) before runs) (finds_in_order terms n (fresh p) before runs room),
+      paced.0 ∙ owed_joined terms n (fresh p) before runs hushed,
     )
 
 pub returns-clause-read : goal.returns-clause-read
-returns-clause-read c = λ most n wanted p piece r after before s.
+returns-clause-read c = λ terms n wanted p piece r after before s.
     let here = stepped (arrived n piece) r in
-    let runs = runs_past most (fresh p) (after ++ here ∷ []) before (subst (Runs most (fresh p)) (sym (append_assoc after (here ∷ []) before)) s.ran) in
+    let runs = runs_past terms (fresh p) (after ++ here ∷ []) before (subst (Runs terms (fresh p)) (sym (append_assoc after (here ∷ []) before)) s.ran) in
     let room = room_past (fresh p) after (here ∷ before) s.room in
     let hushed = hushed_past after (here ∷ before) s.hushed in
     let paced = paced_past after (here ∷ before) s.paced in (
       got n (in_order before),
-      c.runs_tell_each_its_own.ensures.within most n (in_order before) p (ran_in_order most (fresh p) before runs) (finds_in_order most n (fresh p) before runs room),
-      paced.0 ∙ owed_joined most n (fresh p) before runs hushed.1,
+      c.runs_tell_each_its_own.ensures.on_terms terms n (in_order before) p (ran_in_order terms (fresh p) before runs) (finds_in_order terms n (fresh p) before runs room),
+      paced.0 ∙ owed_joined terms n (fresh p) before runs hushed.1,
     )

@@ -2,7 +2,7 @@
 use Rattle.std.proofs.Common.{◌≡◌, ◌≤◌, List, Some}
 use Rattle.osm_desk.specs.Desks.{fresh}
 use Rattle.osm_keys.specs.Publications.{Publication}
-use Rattle.osm_index.specs.Snapshots.{HoldsPublication}
+use Rattle.osm_gate.specs.Terms.{terms_of}
 use Rattle.osm_traffic.specs.Deeds.{Deed}
 use Rattle.osm_traffic.specs.Entries.{Entry}
 use Rattle.osm_desk.specs.Published.{TakesFound}
@@ -12,7 +12,7 @@ use Rattle.osm_traffic.proofs.serving.serve_many.Given as goal
 abbrev pub invariant-loop : goal.invariant-loop
 invariant-loop g l = record {
   few : l.taken ≤ l.connections;
-  stands : (p : Publication) (base : List Entry) → HoldsPublication l.fn.desk.snapshot p → g.T.Traffic.log l.fn.traffic ≡ Some base
-      → (deeds : List Deed) × Stands l.most l.connections (fresh p) base deeds (g.T.Traffic.log l.traffic) l.outputs l.desk l.taken;
-  found : TakesFound (g.L.Lookout.found l.fn.lookout) (g.L.Lookout.found l.lookout) l.fn.desk.snapshot l.desk.snapshot;
+  stands : (p : Publication) (base : List Entry) → g.M.Mirror.holds l.fn.desk.mirror p → g.T.Traffic.log l.fn.traffic ≡ Some base
+      → (deeds : List Deed) × Stands g.M.Mirror.holds (terms_of l.most g.M.Mirror.may_fail) l.connections (fresh p) base deeds (g.T.Traffic.log l.traffic) l.outputs l.desk l.taken;
+  found : TakesFound (g.L.Lookout.found l.fn.lookout) (g.L.Lookout.found l.lookout) (g.M.Mirror.holds l.fn.desk.mirror) (g.M.Mirror.holds l.desk.mirror);
 }

@@ -9,30 +9,30 @@ use Rattle.osm_traffic.proofs.StandLemmas.{moved, opens_err, opens_not, opens_ok
 use Rattle.osm_traffic.proofs.welcome.open.Goals as goal
 
 pub returns-in_err-add-clause-stands : goal.returns-in_err-add-clause-stands
-returns-in_err-add-clause-stands g c = λ most log wanted d base deeds s. (
+returns-in_err-add-clause-stands g c = λ terms log wanted d base deeds s. (
   _,
-  moved most wanted d base _ _ _ _ _ _ _ (c.args.number + 1) refl c.in_err-add.ensures.err refl (opens_not most wanted d base deeds log _ _ c.args.number s c.requires.room),
+  moved g.M.Mirror.holds terms wanted d base _ _ _ _ _ _ _ (c.args.number + 1) refl c.in_err-add.ensures.err refl (opens_not g.M.Mirror.holds terms wanted d base deeds log _ _ c.args.number s c.requires.room),
 )
 
 pub returns-in_default-clause-stands : goal.returns-in_default-clause-stands
-returns-in_default-clause-stands g c = λ most log wanted d base deeds s. (
+returns-in_default-clause-stands g c = λ terms log wanted d base deeds s. (
   _,
-  moved most wanted d base _ _ _ _ _ _ _ (c.args.number + 1) refl c.in_ok-add.ensures.ok refl
-      (opens_ok most wanted d base deeds log _ _ c.args.number s c.requires.room _ c.in_default.ensures.opened.0 c.in_default.ensures.opened.1),
+  moved g.M.Mirror.holds terms wanted d base _ _ _ _ _ _ _ (c.args.number + 1) refl c.in_ok-add.ensures.ok refl
+      (opens_ok g.M.Mirror.holds terms wanted d base deeds log _ _ c.args.number s c.requires.room _ c.in_default.ensures.opened.0 c.in_default.ensures.opened.1),
 )
 
-pub returns-in_default-clause-snapshot : goal.returns-in_default-clause-snapshot
-returns-in_default-clause-snapshot g c = ap (λ (all : Contents). all.snapshot) c.in_default.ensures.opened.1
+pub returns-in_default-clause-mirror : goal.returns-in_default-clause-mirror
+returns-in_default-clause-mirror g c = ap (λ (all : Contents _). all.mirror) c.in_default.ensures.opened.1
 
 pub returns-clause-stands : goal.returns-clause-stands
-returns-clause-stands g c = λ most log wanted d base deeds s. (
+returns-clause-stands g c = λ terms log wanted d base deeds s. (
   _,
-  moved most wanted d base _ _ _ _ _ _ _ (c.args.number + 1) refl
+  moved g.M.Mirror.holds terms wanted d base _ _ _ _ _ _ _ (c.args.number + 1) refl
       (some_of (λ bytes. c.put.new.self ≡ insert c.add.new.self c.args.number c.apology.result) _ [] (ap (λ (outputs : Waiting). get outputs c.args.number) c.in_ok-add.ensures.ok ∙ get-put_same c.args.outputs.now c.args.number []) c.put.ensures
       ∙ ap (insert c.add.new.self c.args.number) c.apology.ensures
       ∙ ap (λ (outputs : Waiting). insert outputs c.args.number no_memory) c.in_ok-add.ensures.ok ∙ put-twice c.args.outputs.now c.args.number [] no_memory) refl
-      (opens_err most wanted d base deeds log _ _ c.args.number s c.requires.room _ c.in-Err.field-0 c.in-Err.ensures.refused c.in-Err.ensures.unchanged),
+      (opens_err g.M.Mirror.holds terms wanted d base deeds log _ _ c.args.number s c.requires.room _ c.in-Err.field-0 c.in-Err.ensures.refused c.in-Err.ensures.unchanged),
 )
 
-pub returns-clause-snapshot : goal.returns-clause-snapshot
-returns-clause-snapshot g c = ap (λ (all : Contents). all.snapshot) c.in-Err.ensures.unchanged
+pub returns-clause-mirror : goal.returns-clause-mirror
+returns-clause-mirror g c = ap (λ (all : Contents _). all.mirror) c.in-Err.ensures.unchanged

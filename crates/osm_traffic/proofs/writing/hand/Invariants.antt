@@ -1,15 +1,15 @@
 -- However many chunks were given, it stands as the deeds so far say.
-use Rattle.std.proofs.Common.{◌≡◌, ℕ, length}
+use Rattle.std.proofs.Common.{◌≡◌, length}
 use Rattle.std.specs.FinMap.{get}
-use Rattle.std.specs.Prelude.{Option}
+use Rattle.osm_gate.specs.Terms.{Terms}
 use Rattle.osm_traffic.specs.internal.Standing.{Keeps}
 use Rattle.osm_traffic.specs.internal.Texts.{coming}
 use Rattle.osm_traffic.proofs.writing.hand.Given as goal
 
 abbrev pub invariant-chunks : goal.invariant-chunks
 invariant-chunks g l = record {
-  kept : (most : Option ℕ) → Keeps most (g.T.Traffic.log l.fn.traffic) (g.T.Traffic.log l.traffic) l.fn.outputs l.outputs l.fn.desk l.desk;
-  snapshot : l.desk.snapshot ≡ l.fn.desk.snapshot;
+  kept : (terms : Terms) → Keeps g.M.Mirror.holds terms (g.T.Traffic.log l.fn.traffic) (g.T.Traffic.log l.traffic) l.fn.outputs l.outputs l.fn.desk l.desk;
+  mirror : l.desk.mirror ≡ l.fn.desk.mirror;
 }
 
 abbrev pub decreases-chunks : goal.decreases-chunks

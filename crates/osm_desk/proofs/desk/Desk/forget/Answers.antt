@@ -3,9 +3,9 @@ use Rattle.osm_desk.proofs.TableLemmas.{found, taken}
 use Rattle.osm_desk.proofs.desk.Desk.forget.Goals as goal
 
 pub returns-clause-was : goal.returns-clause-was
-returns-clause-was c =
+returns-clause-was g c =
     c.is_some.ensures
-    ∙ ap is_some (c.remove.ensures.value ∙ sym (found _ c.self.inside.snapshot c.self.inside.gates c.self.view_is c.args.number))
+    ∙ ap is_some (c.remove.ensures.value ∙ sym (found _ c.self.inside.mirror c.self.inside.gates c.self.view_is c.args.number))
 
 pub returns-clause-forgotten : goal.returns-clause-forgotten
-returns-clause-forgotten c = taken _ c.self.inside.snapshot c.self.inside.gates c.self.view_is c.args.number c.remove.new.self c.remove.ensures.updates
+returns-clause-forgotten g c = taken _ c.self.inside.mirror c.self.inside.gates c.self.view_is c.args.number c.remove.new.self c.remove.ensures.updates

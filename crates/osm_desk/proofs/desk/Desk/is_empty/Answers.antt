@@ -8,8 +8,8 @@ use Rattle.osm_desk.proofs.TableLemmas.{size}
 use Rattle.osm_desk.proofs.desk.Desk.is_empty.Goals as goal
 
 pub returns : goal.returns
-returns c =
-    let is = size _ c.self.inside.snapshot c.self.inside.gates c.self.view_is 0 c.len.ensures.ordered ∙ sym c.len.ensures.len in (
+returns g c =
+    let is = size _ c.self.inside.mirror c.self.inside.gates c.self.view_is 0 c.len.ensures.ordered ∙ sym c.len.ensures.len in (
       (λ yes. empty_of_len _ (is ∙ eqb-true c.len.result 0 yes)),
       (λ none. eq-eqb c.len.result 0 (sym is ∙ ap (λ (all : Connections). len all) none ∙ len-empty nat_cmp Rest)),
     )

@@ -4,10 +4,10 @@ use Rattle.osm_desk.proofs.TestLemmas.{on_none}
 use Rattle.osm_desk.proofs.desk.Desk.is_open.Goals as goal
 
 pub returns-clause-open : goal.returns-clause-open
-returns-clause-open c =
-    let is = c.contains_key.ensures ∙ sym (ap is_some (found _ c.self.inside.snapshot c.self.inside.gates c.self.view_is c.args.number)) in
+returns-clause-open g c =
+    let is = c.contains_key.ensures ∙ sym (ap is_some (found _ c.self.inside.mirror c.self.inside.gates c.self.view_is c.args.number)) in
     ((λ yes. sym is ∙ yes), (λ some. is ∙ some))
 
 pub returns-clause-free : goal.returns-clause-free
-returns-clause-free c =
-    on_none _ _ (c.contains_key.ensures ∙ sym (ap is_some (found _ c.self.inside.snapshot c.self.inside.gates c.self.view_is c.args.number)))
+returns-clause-free g c =
+    on_none _ _ (c.contains_key.ensures ∙ sym (ap is_some (found _ c.self.inside.mirror c.self.inside.gates c.self.view_is c.args.number)))

@@ -2,7 +2,7 @@ use Rattle.std.proofs.Common.{rules, sym, ◌≡◌}
 use Rattle.osm_gate.proofs.shared.GivenUp.{given_up_at_once}
 use Rattle.osm_desk.specs.OneConnection.{without}
 use Rattle.osm_desk.proofs.ServingLemmas.{forgotten, opened_rest}
-use Rattle.osm_desk.proofs.desk.Desk.serve_on.Goals as goal
+use Rattle.osm_desk.proofs.serving.Desk+Snapshot.serve_on.Goals as goal
 
 pub returns-in_default-clause-ended : goal.returns-in_default-clause-ended
 returns-in_default-clause-ended g c = λ p holds.

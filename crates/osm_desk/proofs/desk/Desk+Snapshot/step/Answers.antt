@@ -1,5 +1,5 @@
 use Rattle.osm_desk.proofs.EventLemmas.{turn-of}
-use Rattle.osm_desk.proofs.desk.Desk.step.Goals as goal
+use Rattle.osm_desk.proofs.desk.Desk+Snapshot.step.Goals as goal
 
 pub returns-clause-turn : goal.returns-clause-turn
 returns-clause-turn c =

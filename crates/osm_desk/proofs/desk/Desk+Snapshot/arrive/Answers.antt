@@ -3,7 +3,7 @@ use Rattle.std.specs.FinMap.{get}
 use Rattle.std.specs.Prelude.{IsSome}
 use Rattle.osm_desk.specs.Stepping.{texts_of}
 use Rattle.osm_desk.proofs.StepLemmas.{arrive_steps}
-use Rattle.osm_desk.proofs.desk.Desk.arrive.Goals as goal
+use Rattle.osm_desk.proofs.desk.Desk+Snapshot.arrive.Goals as goal
 
 pub returns-clause-responses : goal.returns-clause-responses
 returns-clause-responses c = λ p holds.

@@ -7,8 +7,8 @@ use Rattle.osm_desk.specs.Stepping.{HasStepped, IsRefusal, texts_of}
 use Rattle.osm_desk.specs.declared.desk_fault.DeskFault.TheVariants.{NotOpen}
 use Rattle.osm_desk.specs.declared.event.Event.{Event}
 use Rattle.osm_desk.proofs.StepLemmas.{arrive_refused, arrived_steps, end_refused, end_steps, ended_none, if_err, if_ok, none_by, open_refused, open_steps, publish_refused, publish_steps, quiet_steps, refused_by}
-use Rattle.osm_desk.proofs.desk.Desk.take.Goals as goal
-use Rattle.osm_desk.proofs.desk.Desk.take.Goals.{in-Open+in_ok-open-in-Open, in-End+else-not-forget, in-Publish+in_ok-publish-in-Publish}
+use Rattle.osm_desk.proofs.desk.Desk+Snapshot.take.Goals as goal
+use Rattle.osm_desk.proofs.desk.Desk+Snapshot.take.Goals.{in-Open+in_ok-open-in-Open, in-End+else-not-forget, in-Publish+in_ok-publish-in-Publish}
 
 pub returns-in_err-open-in-Open-clause-refused : goal.returns-in_err-open-in-Open-clause-refused
 returns-in_err-open-in-Open-clause-refused c = λ p holds.
