@@ -1,9 +1,9 @@
 -- The root that the header of a pack states.
-use Rattle.std.proofs.Common.{◌≡◌, ◌≤◌, ◌+◌, ℕ, List, ◌++◌, Bool, true, false, cond, ltb, eqb, Result, Ok, Err, length, take, drop, sym, ap, ◌∙◌, append_assoc, arith, w32, w64}
+use Rattle.std.proofs.Common.{◌≡◌, ℕ, List, ◌++◌, Bool, true, false, cond, ltb, eqb, Result, Ok, Err, length, take, drop, sym, ap, ◌∙◌, append_assoc, arith, w32, w64}
 use Rattle.std.specs.Int.{from_be_bytes, to_be_bytes}
 use Rattle.std.specs.Prelude.{unwrap_or}
 use Rattle.std.proofs.lemmas.List.{take_at, take-take}
-use Rattle.node_pack.specs.Headers.{fields_at, header_at, sized}
+use Rattle.node_pack.specs.Headers.{fields_at, header_at}
 use Rattle.node_pack.specs.Packs.{Kept, no_place, pack, pack_len, place_in, records_in}
 use Rattle.node_pack.specs.Places.{place_bytes}
 use Rattle.node_pack.specs.declared.fault.PackFault.{PackFault}

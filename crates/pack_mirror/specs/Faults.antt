@@ -45,9 +45,16 @@ fault_of_answer answers.TooLong = Device
 
 -- ---- what a fault says
 
--- it is of the query or of memory
+-- it isn't too much work, nor of the device
 abbrev pub IsOfQuery : MirrorFault → Type 0
 IsOfQuery (Query fault) = ⊤
 IsOfQuery Work = ⊥
 IsOfQuery Memory = ⊤
 IsOfQuery Device = ⊥
+
+-- it isn't too much work
+abbrev pub IsNoWork : MirrorFault → Type 0
+IsNoWork (Query fault) = ⊤
+IsNoWork Work = ⊥
+IsNoWork Memory = ⊤
+IsNoWork Device = ⊤

@@ -11,11 +11,10 @@ ghost use Rattle.ql_syntax.specs.declared.fault.QlFault.{QlFault};
 ghost use Rattle.osm_gate.specs.Mirrors.{KeepsBudget};
 ghost use Rattle.pack_mirror.specs.Roots.{StandsFor};
 
-use crate::faults::{answer_refused, pack_refused};
-use crate::lent::Lent;
-use crate::queries::check_query;
+use crate::faults::answer_refused;
+use crate::opening::source_for;
 use bumpalo::Bump;
-use node_pack::{PackSource, ReadAt};
+use node_pack::ReadAt;
 use osm_gate::MirrorFault;
 use osm_prove::{Answered, Proved};
 use outside_answer::Limits;
@@ -23,9 +22,8 @@ use outside_proof::{answer_query_from, prove_from};
 use std::alloc::Global;
 use tree_node::Digest;
 
-/// The answer to a query under a root, from what a pack file gives now. The query is read before the file is touched. Then the
-/// header is read anew, which costs one short read: a source that stayed open would keep the places of the nodes of all
-/// queries.
+/// The answer to a query under a root, from what a pack file gives now. What it takes of memory goes back with the call, but
+/// for the answer.
 pub(crate) fn answer_from_file<F: ReadAt>(
     alloc: Global,
     file: &mut F,
@@ -44,11 +42,7 @@ pub(crate) fn answer_from_file<F: ReadAt>(
         → KeepsBudget (IsWorkOf (form_text Opl) p query.now) most result }
     ensures limited { most ≡ None → result ≢ Err MirrorFault.Work }
 {
-    check_query(alloc, query)?;
-    let source = match PackSource::open(alloc, Lent::new(file)) {
-        Ok(source) => source,
-        Err(fault) => return Err(pack_refused(fault)),
-    };
+    let source = source_for(alloc, file, query)?;
     let arena = Bump::new(alloc);
     match answer_query_from(alloc, &arena, source, query, root, limits_of(most)) {
         Ok(answered) => Ok(answered),
@@ -75,11 +69,7 @@ pub(crate) fn prove_from_file<F: ReadAt>(
         → KeepsBudget (IsWorkOf (form_text Opl) p query.now) most result }
     ensures limited { most ≡ None → result ≢ Err MirrorFault.Work }
 {
-    check_query(alloc, query)?;
-    let source = match PackSource::open(alloc, Lent::new(file)) {
-        Ok(source) => source,
-        Err(fault) => return Err(pack_refused(fault)),
-    };
+    let source = source_for(alloc, file, query)?;
     let arena = Bump::new(alloc);
     match prove_from(alloc, &arena, source, query, root, limits_of(most)) {
         Ok(proved) => Ok(proved),

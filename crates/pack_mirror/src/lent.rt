@@ -1,13 +1,8 @@
 //! A file that is lent to a source.
 
-ghost use Rattle.std.specs.Prelude.{◌≡◌, ◌⊎◌, IfErr, IfOk, List, Ok, length, take, ℕ};
-ghost use Rattle.node_pack.specs.Headers.{header_at};
-ghost use Rattle.node_pack.specs.Sources.{IsOpenFault};
-ghost use Rattle.node_pack.specs.declared.header.Header.{Header};
+ghost use Rattle.std.specs.Prelude.{◌≡◌};
 
-use node_pack::{PackFault, PackSource, Place, ReadAt, ReadFault};
-use std::alloc::Global;
-use tree_node::Digest;
+use node_pack::{Place, ReadAt, ReadFault};
 
 /// A file that is lent to a source: it gives what the file gives, and stays its owner's.
 #[derive(Drop)]
@@ -42,14 +37,4 @@ impl<F: ReadAt> ReadAt for Lent<'_, F> {
     fn expect(&mut self, places: &[Place]) {
         self.file.expect(places);
     }
-}
-
-/// The root that the header of a pack states.
-pub(crate) fn read_root<F: ReadAt>(alloc: Global, file: &mut F) -> Result<Digest, PackFault>
-    ensures header { (bytes : List ℕ) → F.reads file.old bytes → IfOk result (λ root. (header : Header)
-        × (header_at (take 60 bytes) (length bytes) ≡ Ok header) × (root ≡ header.root)) }
-    ensures refused { (bytes : List ℕ) → F.reads file.old bytes → IfErr result (IsOpenFault bytes) }
-{
-    let source = PackSource::open(alloc, Lent::new(file))?;
-    Ok(source.root())
 }

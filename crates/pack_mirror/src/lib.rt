@@ -9,6 +9,7 @@ mod answering;
 mod faults;
 mod lent;
 mod mirror;
+mod opening;
 mod queries;
 
 pub use mirror::PackMirror;

@@ -1,6 +1,6 @@
 //! A pack file as a mirror.
 
-ghost use Rattle.std.specs.Prelude.{Bool, ◌≡◌, ◌≢◌, ◌⊎◌, Err, IfErr, IfOk, List, None, Ok, length, take, true, ℕ, ⊤};
+ghost use Rattle.std.specs.Prelude.{◌≡◌, IfErr, IfOk, List, Ok, length, take, ℕ, ⊤};
 ghost use Rattle.tree_node.specs.Outcomes.{Clash};
 ghost use Rattle.osm_keys.specs.Publications.{IsPublication, Publication, root_of};
 ghost use Rattle.ql_eval.specs.Work.{IsNodeOf};
@@ -11,7 +11,7 @@ ghost use Rattle.node_pack.specs.declared.header.Header.{Header};
 ghost use Rattle.pack_mirror.specs.Roots.{StandsFor};
 
 use crate::answering::{answer_from_file, prove_from_file};
-use crate::lent::read_root;
+use crate::opening::read_root;
 use node_pack::{PackFault, ReadAt};
 use osm_gate::{Mirror, MirrorFault};
 use osm_prove::{Answered, Proved};
@@ -46,7 +46,7 @@ impl<F: ReadAt + Drop> PackMirror<F> {
     ///
     /// The first thing that is at fault with the header, as [`node_pack::PackSource::open`] tells it; `Device` where the file
     /// isn't read, and `Memory` where an allocation is refused.
-    pub fn open(alloc: Global, file: F) -> Result<PackMirror<F>, PackFault>
+    pub fn open(alloc: Global, mut file: F) -> Result<PackMirror<F>, PackFault>
         // Of a pack of a publication, it stands for that publication, unless a node of it and other bytes have one digest.
         ensures stands { (p : Publication) (nodes : List Kept) → F.reads file (pack (root_of p) nodes)
             → IsPack (pack (root_of p) nodes) (root_of p) nodes
@@ -58,7 +58,6 @@ impl<F: ReadAt + Drop> PackMirror<F> {
         // or the first thing that is at fault is told, unless the device fails or memory is refused.
         ensures refused { (bytes : List ℕ) → F.reads file bytes → IfErr result (IsOpenFault bytes) }
     {
-        let mut file = file;
         let root = read_root(alloc, &mut file)?;
         Ok(PackMirror { file, root })
     }

@@ -60,8 +60,7 @@ fn pack(alloc: Global, snapshot: &Snapshot) -> Result<Vec<u8>, Fail> {
 /// A request that asks a query at this end of the path.
 fn request(alloc: Global, end: &str, query: &str) -> Result<Vec<u8>, AllocError> {
     let len = query.len();
-    let text = format!(
-        in alloc;
+    let text = format!(in alloc;
         "POST /api/{end} HTTP/1.1\r\nHost: h\r\nContent-Length: {len}\r\n\r\n{query}"
     )?;
     Ok(text.into_bytes())
