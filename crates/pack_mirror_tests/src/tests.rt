@@ -249,6 +249,15 @@ fn failing_devices_make_no_answer(rt: HostRuntime) -> Result<(), Fail> {
     Ok(())
 }
 
+/// A pack, opened; out of memory it is opened once more.
+fn open_again(alloc: Global, pack: &[u8]) -> Result<PackMirror<&[u8]>, PackFault> {
+    match PackMirror::open(alloc, pack) {
+        Ok(mirror) => Ok(mirror),
+        Err(PackFault::Memory) => PackMirror::open(alloc, pack),
+        Err(fault) => Err(fault),
+    }
+}
+
 /// Run with each allocation refused in turn: the mirror and the responses, or out of memory and then these.
 #[test]
 fn serves_within_memory(rt: HostRuntime) -> Result<(), Fail> {
@@ -258,12 +267,7 @@ fn serves_within_memory(rt: HostRuntime) -> Result<(), Fail> {
     let mut requests = request(alloc, "interpreter", "node(1);out;")?;
     requests.extend_from_slice(&request(alloc, "checked", "node(1);out;")?)?;
     let expected = given(alloc, &mut &snapshot, &requests, None)?;
-    let mut opened = PackMirror::open(alloc, pack.as_slice());
-    if opened.is_err() {
-        assert!(rt; opened.err() == Some(PackFault::Memory));
-        opened = PackMirror::open(alloc, pack.as_slice());
-    }
-    let mut mirror = opened?;
+    let mut mirror = open_again(alloc, &pack)?;
     let responses = match given(alloc, &mut mirror, &requests, None) {
         Ok(responses) => responses,
         Err(AllocError) => given(alloc, &mut mirror, &requests, None)?,
