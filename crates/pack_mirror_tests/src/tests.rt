@@ -108,9 +108,20 @@ fn serves_as_a_snapshot(
     Ok(())
 }
 
+/// So many nodes that their trees have nodes with children.
+fn many_nodes(alloc: Global) -> Result<String, AllocError> {
+    let mut set = String::new(alloc);
+    for id in 1..400_u32 {
+        let line = format!(in alloc; "n{id} Thighway=crossing x13.{id} y52.5\n")?;
+        set.push_str(&line)?;
+    }
+    Ok(set)
+}
+
 #[test]
 fn serves_packs(rt: HostRuntime) -> Result<(), Fail> {
-    for set in [SET, ""] {
+    let many = many_nodes(rt.alloc())?;
+    for set in [SET, "", many.as_str()] {
         serves_as_a_snapshot(&rt, set, Edition::One)?;
         serves_as_a_snapshot(&rt, set, Edition::Two { sequence: 7 })?;
     }
