@@ -1,7 +1,7 @@
 //! Gates over packs of small sets, beside gates over the snapshots of the same sets.
 
 use crate::devices::{Failing, Replaced};
-use node_pack::{PackFault, write_pack};
+use node_pack::{PackFault, WriteFault, write_pack};
 use opl_codec::read_set;
 use osm_gate::{Gate, Mirror};
 use osm_index::{Edition, Snapshot};
@@ -48,13 +48,17 @@ fn snapshot(alloc: Global, set: &str, edition: Edition) -> Result<Snapshot, Fail
 /// The pack of a snapshot.
 fn pack(alloc: Global, snapshot: &Snapshot) -> Result<Vec<u8>, Fail> {
     let mut pack = Vec::new(alloc);
-    write_pack(
+    match write_pack(
         alloc,
         &mut snapshot.stock().shelf(alloc),
         snapshot.root(),
         &mut pack,
-    )?;
-    Ok(pack)
+    ) {
+        Ok(_) => Ok(pack),
+        // A vector takes what is written, unless memory runs out.
+        Err(WriteFault::NotWritten) => Err(Fail::from(AllocError)),
+        Err(fault) => Err(Fail::from(fault)),
+    }
 }
 
 /// A request that asks a query at this end of the path.
