@@ -79,7 +79,8 @@ pub(crate) fn prove_from_file<F: ReadAt>(
 
 /// The budget alone limits what is done: a query may read as many bytes as it needs.
 fn limits_of(most: Option<u64>) -> Limits
-    ensures { result.work ≡ most }
+    ensures work { result.work ≡ most }
+    ensures bytes { result.bytes ≡ None }
 {
     Limits {
         bytes: None,

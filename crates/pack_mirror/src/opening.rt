@@ -26,8 +26,8 @@ pub(crate) fn read_root<F: ReadAt>(alloc: Global, file: &mut F) -> Result<Digest
     Ok(source.root())
 }
 
-/// A source for a query, which is read before the file is touched. The header is read anew, which costs one short read: a
-/// source that stayed open would keep the places of the nodes of all queries.
+/// A source for a query, which is parsed before the file is touched; who answers it parses it once more. The header is read
+/// anew, which costs one short read: a source that stayed open would keep the places of the nodes of all queries.
 pub(crate) fn source_for<'a, F: ReadAt>(
     alloc: Global,
     file: &'a mut F,

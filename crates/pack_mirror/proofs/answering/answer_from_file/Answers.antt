@@ -24,4 +24,4 @@ pub returns-clause-budget : goal.returns-clause-budget
 returns-clause-budget g c = λ p stands.
     let IsWork = IsWorkOf (form_text Opl) p c.args.query.now in
     let kept = budget_told Answered IsWork c.limits_of.result.work c.in-Err.fault (c.in-Err.ensures.budget p stands.0 stands.1 stands.2) in
-    subst (λ (fault : MirrorFault). KeepsBudget {A = Answered} IsWork c.args.most (Err fault)) (sym c.answer_refused.ensures) (rw c.limits_of.ensures at kept)
+    subst (λ (fault : MirrorFault). KeepsBudget {A = Answered} IsWork c.args.most (Err fault)) (sym c.answer_refused.ensures) (rw c.limits_of.ensures.work at kept)
