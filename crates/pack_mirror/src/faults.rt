@@ -1,0 +1,48 @@
+//! What each fault is to who asks a mirror.
+
+ghost use Rattle.std.specs.Prelude.{◌≡◌};
+ghost use Rattle.pack_mirror.specs.Faults.{fault_of_answer, fault_of_pack, fault_of_query};
+
+use node_pack::PackFault;
+use osm_gate::MirrorFault;
+use outside_proof::OutsideFault;
+use ql_syntax::{QlCause, QlFault};
+
+/// What a query that isn't read is: its fault, or out of memory.
+pub(crate) fn query_refused(fault: QlFault) -> MirrorFault
+    ensures { result ≡ fault_of_query fault }
+{
+    match fault.cause {
+        QlCause::Memory => MirrorFault::Memory,
+        _ => MirrorFault::Query(fault),
+    }
+}
+
+/// What a pack that isn't opened again is: a failed device, unless memory ran out.
+pub(crate) fn pack_refused(fault: PackFault) -> MirrorFault
+    ensures { result ≡ fault_of_pack fault }
+{
+    match fault {
+        PackFault::Memory => MirrorFault::Memory,
+        PackFault::NotAPack
+        | PackFault::OtherVersion
+        | PackFault::Cut
+        | PackFault::BytesAfter
+        | PackFault::Device => MirrorFault::Device,
+    }
+}
+
+/// What it is that nodes have no answer: a node that isn't given, and nodes that aren't those of a publication, are the
+/// device's fault.
+pub(crate) fn answer_refused(fault: OutsideFault) -> MirrorFault
+    ensures { result ≡ fault_of_answer fault }
+{
+    match fault {
+        OutsideFault::Query(fault) => MirrorFault::Query(fault),
+        OutsideFault::Work => MirrorFault::Work,
+        OutsideFault::Memory => MirrorFault::Memory,
+        OutsideFault::Source(_) | OutsideFault::Evaluation(_) | OutsideFault::TooLong => {
+            MirrorFault::Device
+        }
+    }
+}

@@ -1,0 +1,15 @@
+//! Packs as mirrors.
+//!
+//! A [`PackMirror`] is what a gate asks ([`osm_gate::Mirror`]), over a pack file in place of a snapshot in memory. The file is
+//! trusted in nothing: what it gives for a query is the answer under the root that was read when it was opened, or there is
+//! none.
+#![tactic(auto)]
+
+mod answering;
+mod faults;
+mod lent;
+mod mirror;
+mod opening;
+mod queries;
+
+pub use mirror::PackMirror;

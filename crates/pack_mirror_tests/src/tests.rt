@@ -1,0 +1,299 @@
+//! Gates over packs of small sets, beside gates over the snapshots of the same sets.
+
+use crate::devices::{Failing, Replaced};
+use node_pack::{PackFault, WriteFault, write_pack};
+use opl_codec::read_set;
+use osm_gate::{Gate, Mirror};
+use osm_index::{Edition, Snapshot};
+use pack_mirror::PackMirror;
+use std::alloc::{AllocError, Global};
+use std::process::Abort;
+use std::test::Fail;
+
+const SET: &str = "\
+n1 v1 dV c5 t2020-01-02T03:04:05Z i7 uAnn Thighway=crossing x13.4 y52.5\n\
+n2 x13.4000001 y52.5\n\
+w10 Thighway=primary,name=A%20%B Nn1,n2,n1\n\
+r100 Ttype=route Mw10@outer,n99@stop,r100@\n\
+";
+
+/// The last of them doesn't read.
+const QUERIES: [&str; 7] = [
+    "node(1);out;",
+    "node(99);out;",
+    "way(10);>;out ids;",
+    "nwr[highway];out ids;",
+    "node[highway][!name];out ids;",
+    "node(52.4,13.3,52.6,13.5);<<;out count;",
+    "nothing",
+];
+
+/// What a mirror responds with whose device failed.
+const FAILED: &[u8] = b"\
+HTTP/1.1 500 Internal Server Error\r\n\
+Content-Type: text/plain; charset=utf-8\r\n\
+Content-Length: 7\r\n\
+\r\n\
+device\n";
+
+/// The request for the root.
+const ROOT: &[u8] = b"GET /api/root HTTP/1.1\r\nHost: h\r\n\r\n";
+
+/// The snapshot of a set in an edition.
+fn snapshot(alloc: Global, set: &str, edition: Edition) -> Result<Snapshot, Fail> {
+    let set = read_set(alloc, &mut set.as_bytes())?;
+    Ok(Snapshot::build(alloc, set, edition)?)
+}
+
+/// The pack of a snapshot.
+fn pack(alloc: Global, snapshot: &Snapshot) -> Result<Vec<u8>, Fail> {
+    let mut pack = Vec::new(alloc);
+    match write_pack(
+        alloc,
+        &mut snapshot.stock().shelf(alloc),
+        snapshot.root(),
+        &mut pack,
+    ) {
+        Ok(_) => Ok(pack),
+        // A vector takes what is written, unless memory runs out.
+        Err(WriteFault::NotWritten) => Err(Fail::from(AllocError)),
+        Err(fault) => Err(Fail::from(fault)),
+    }
+}
+
+/// A request that asks a query at this end of the path.
+fn request(alloc: Global, end: &str, query: &str) -> Result<Vec<u8>, AllocError> {
+    let len = query.len();
+    let text = format!(in alloc;
+        "POST /api/{end} HTTP/1.1\r\nHost: h\r\nContent-Length: {len}\r\n\r\n{query}"
+    )?;
+    Ok(text.into_bytes())
+}
+
+/// What a new connection over a mirror responds to requests.
+fn given<M: Mirror>(
+    alloc: Global,
+    mirror: &mut M,
+    requests: &[u8],
+    most: Option<u64>,
+) -> Result<Vec<u8>, AllocError> {
+    let mut gate = Gate::new(alloc)?;
+    gate.feed_as(requests, mirror, most)
+}
+
+/// Each query both ways, and the root after them.
+fn all_requests(alloc: Global) -> Result<Vec<u8>, AllocError> {
+    let mut requests = Vec::new(alloc);
+    for query in QUERIES {
+        requests.extend_from_slice(&request(alloc, "interpreter", query)?)?;
+        requests.extend_from_slice(&request(alloc, "checked", query)?)?;
+    }
+    requests.extend_from_slice(ROOT)?;
+    Ok(requests)
+}
+
+/// Over the pack of a set come the very bytes that come over its snapshot. The work of the first query is 733, by hand.
+fn serves_as_a_snapshot(
+    rt: &(impl Abort + AllocGlobal),
+    set: &str,
+    edition: Edition,
+) -> Result<(), Fail> {
+    let alloc = rt.alloc();
+    let snapshot = snapshot(alloc, set, edition)?;
+    let pack = pack(alloc, &snapshot)?;
+    let mut of_snapshot = &snapshot;
+    let mut of_pack = PackMirror::open(alloc, pack.as_slice())?;
+    let requests = all_requests(alloc)?;
+    for most in [None, Some(733), Some(732), Some(0)] {
+        let expected = given(alloc, &mut of_snapshot, &requests, most)?;
+        let responses = given(alloc, &mut of_pack, &requests, most)?;
+        assert_eq!(rt; responses.as_slice(), expected.as_slice(), "{most:?}");
+    }
+    Ok(())
+}
+
+/// So many nodes that their trees have nodes with children.
+fn many_nodes(alloc: Global) -> Result<String, AllocError> {
+    let mut set = String::new(alloc);
+    for id in 1..400_u32 {
+        let line = format!(in alloc; "n{id} Thighway=crossing x13.{id} y52.5\n")?;
+        set.push_str(&line)?;
+    }
+    Ok(set)
+}
+
+#[test]
+fn serves_packs(rt: HostRuntime) -> Result<(), Fail> {
+    let many = many_nodes(rt.alloc())?;
+    for set in [SET, "", many.as_str()] {
+        serves_as_a_snapshot(&rt, set, Edition::One)?;
+        serves_as_a_snapshot(&rt, set, Edition::Two { sequence: 7 })?;
+    }
+    Ok(())
+}
+
+/// Whether a query has its response from a file that isn't the pack as it was, before it is opened and after. Else there is
+/// none.
+fn responds(
+    rt: &(impl Abort + AllocGlobal),
+    pack: &[u8],
+    spoiled: &[u8],
+    request: &[u8],
+    expected: &[u8],
+) -> Result<bool, Fail> {
+    let alloc = rt.alloc();
+    if let Ok(mirror) = PackMirror::open(alloc, spoiled) {
+        let mut mirror = mirror;
+        let response = given(alloc, &mut mirror, request, None)?;
+        assert!(rt; response.as_slice() == expected || response.as_slice() == FAILED);
+    }
+    let mut mirror = PackMirror::open(alloc, Replaced::new(pack, spoiled))?;
+    let response = given(alloc, &mut mirror, request, None)?;
+    let is_as_before = response.as_slice() == expected;
+    assert!(rt; is_as_before || response.as_slice() == FAILED);
+    Ok(is_as_before)
+}
+
+/// Turns one bit of the byte at this place.
+fn turn(bytes: &mut [u8], at: usize, bit: u8) {
+    if let Some(byte) = bytes.get_mut(at) {
+        *byte ^= bit;
+    }
+}
+
+/// Each bit of a pack turned: there is no other answer.
+#[test]
+fn turned_bits_make_no_answer(rt: HostRuntime) -> Result<(), Fail> {
+    let alloc = rt.alloc();
+    let snapshot = snapshot(alloc, "n1 Ta=b x1 y2\n", Edition::Two { sequence: 7 })?;
+    let pack = pack(alloc, &snapshot)?;
+    let request = request(alloc, "checked", "node[a];out;")?;
+    let expected = given(alloc, &mut &snapshot, &request, None)?;
+    let mut spoiled = pack.to_vec(alloc)?;
+    let mut responded = 0_usize;
+    for at in 0..pack.len() {
+        for bit in [1, 2, 4, 8, 16, 32, 64, 128_u8] {
+            turn(&mut spoiled, at, bit);
+            if responds(&rt, &pack, &spoiled, &request, &expected)? {
+                responded = responded.saturating_add(1);
+            }
+            turn(&mut spoiled, at, bit);
+        }
+    }
+    // Some of its nodes are needed, and not all.
+    assert!(rt; responded > 0 && responded / 8 < pack.len());
+    Ok(())
+}
+
+/// A file that was cut after it was opened, at any place, is a failed device, and is no pack before.
+#[test]
+fn cut_packs_make_no_answer(rt: HostRuntime) -> Result<(), Fail> {
+    let alloc = rt.alloc();
+    let pack = pack(alloc, &snapshot(alloc, SET, Edition::One)?)?;
+    let request = request(alloc, "interpreter", QUERIES[0])?;
+    for len in 0..pack.len() {
+        let cut = &pack[..len];
+        assert!(rt; PackMirror::open(alloc, cut).is_err(), "{len}");
+        let mut mirror = PackMirror::open(alloc, Replaced::new(&pack, cut))?;
+        let response = given(alloc, &mut mirror, &request, None)?;
+        assert_eq!(rt; response.as_slice(), FAILED, "{len}");
+    }
+    Ok(())
+}
+
+/// A pack that another one took the place of is a failed device. The root stays the one that was read, and a query that doesn't
+/// read is told so.
+#[test]
+fn replaced_packs_make_no_answer(rt: HostRuntime) -> Result<(), Fail> {
+    let alloc = rt.alloc();
+    let snapshot = snapshot(alloc, SET, Edition::Two { sequence: 7 })?;
+    let pack = pack(alloc, &snapshot)?;
+    let other = other_pack(alloc)?;
+    let mut mirror = PackMirror::open(alloc, Replaced::new(&pack, &other))?;
+    assert!(rt; mirror.root() == snapshot.root());
+    for end in ["interpreter", "checked"] {
+        let readable = request(alloc, end, QUERIES[0])?;
+        let response = given(alloc, &mut mirror, &readable, None)?;
+        assert_eq!(rt; response.as_slice(), FAILED, "{end}");
+        let mut others = request(alloc, end, "nothing")?;
+        others.extend_from_slice(ROOT)?;
+        let expected = given(alloc, &mut &snapshot, &others, None)?;
+        let responses = given(alloc, &mut mirror, &others, None)?;
+        assert_eq!(rt; responses.as_slice(), expected.as_slice(), "{end}");
+    }
+    Ok(())
+}
+
+/// The pack of no objects.
+fn other_pack(alloc: Global) -> Result<Vec<u8>, Fail> {
+    pack(alloc, &snapshot(alloc, "", Edition::One)?)
+}
+
+/// How many of the first calls of the device make a query fail, each of them failing in turn. The next query is answered.
+fn failed_calls(
+    rt: &(impl Abort + AllocGlobal),
+    pack: &[u8],
+    request: &[u8],
+    expected: &[u8],
+) -> Result<u32, Fail> {
+    let alloc = rt.alloc();
+    let mut failed = 0_u32;
+    for before in 2..20_u32 {
+        let mut mirror = PackMirror::open(alloc, Failing::new(pack, before))?;
+        let response = given(alloc, &mut mirror, request, None)?;
+        if response.as_slice() == FAILED {
+            failed = failed.saturating_add(1);
+            let next = given(alloc, &mut mirror, request, None)?;
+            assert_eq!(rt; next.as_slice(), expected);
+        } else {
+            assert_eq!(rt; response.as_slice(), expected);
+        }
+    }
+    Ok(failed)
+}
+
+/// A pack is opened by two calls. This query takes these two again, and reads its manifest and its leaf.
+#[test]
+fn failing_devices_make_no_answer(rt: HostRuntime) -> Result<(), Fail> {
+    let alloc = rt.alloc();
+    let snapshot = snapshot(alloc, SET, Edition::One)?;
+    let pack = pack(alloc, &snapshot)?;
+    for before in 0..2_u32 {
+        let opened = PackMirror::open(alloc, Failing::new(&pack, before));
+        assert!(rt; opened.err() == Some(PackFault::Device), "{before}");
+    }
+    for end in ["interpreter", "checked"] {
+        let request = request(alloc, end, QUERIES[0])?;
+        let expected = given(alloc, &mut &snapshot, &request, None)?;
+        let failed = failed_calls(&rt, &pack, &request, &expected)?;
+        assert_eq!(rt; failed, 4, "{end}");
+    }
+    Ok(())
+}
+
+/// A pack, opened; out of memory it is opened once more.
+fn open_again(alloc: Global, pack: &[u8]) -> Result<PackMirror<&[u8]>, PackFault> {
+    match PackMirror::open(alloc, pack) {
+        Ok(mirror) => Ok(mirror),
+        Err(PackFault::Memory) => PackMirror::open(alloc, pack),
+        Err(fault) => Err(fault),
+    }
+}
+
+/// Run with each allocation refused in turn: the mirror and the responses, or out of memory and then these.
+#[test]
+fn serves_within_memory(rt: HostRuntime) -> Result<(), Fail> {
+    let alloc = rt.alloc();
+    let snapshot = snapshot(alloc, "n1 x1 y2\n", Edition::One)?;
+    let pack = pack(alloc, &snapshot)?;
+    let mut requests = request(alloc, "interpreter", "node(1);out;")?;
+    requests.extend_from_slice(&request(alloc, "checked", "node(1);out;")?)?;
+    let expected = given(alloc, &mut &snapshot, &requests, None)?;
+    let mut mirror = open_again(alloc, &pack)?;
+    let responses = match given(alloc, &mut mirror, &requests, None) {
+        Ok(responses) => responses,
+        Err(AllocError) => given(alloc, &mut mirror, &requests, None)?,
+    };
+    assert_eq!(rt; responses.as_slice(), expected.as_slice());
+    Ok(())
+}
