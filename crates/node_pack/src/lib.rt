@@ -32,7 +32,7 @@ mod write_fault;
 mod writing;
 
 pub use fault::PackFault;
-pub use laws::{header_law, hint_law};
+pub use laws::{header_law, hint_law, limits_law};
 pub use place::Place;
 pub use read_at::{ReadAt, ReadFault};
 pub use source::PackSource;

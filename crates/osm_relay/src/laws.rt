@@ -1,15 +1,21 @@
-//! Laws of relayed responses. There is nothing to do when they run.
+//! Laws of relayed responses, and of limits. There is nothing to do when they run.
 
 ghost use Rattle.std.specs.Prelude.{◌≡◌, ◌++◌, ◌^◌, ℕ, Bool, List, Option, Some, true};
 ghost use Rattle.osm_relay.specs.Honest.{IsHonestlyTold, IsServed};
 ghost use Rattle.osm_relay.specs.Logs.{Log};
 ghost use Rattle.osm_relay.specs.Relayed.{IsTakenAt};
-ghost use Rattle.osm_relay.specs.declared.limits.TheConstants.{REPLY_LIMIT};
+ghost use Rattle.osm_relay.specs.declared.limits.TheConstants.{CLIENT_PIECE, CONVERSATION_LIMIT, MIRROR_PIECE, REPLY_LIMIT};
 ghost use Rattle.osm_relay.specs.declared.terms.Terms.{Terms};
 
-/// A law: a reply's body may have 2^28 bytes.
+/// A law: the limits of relaying, as numbers.
 pub fn limits_law()
-    ensures { REPLY_LIMIT ≡ 2 ^ 28 }
+    // A reply's body may have 2^28 bytes.
+    ensures reply { REPLY_LIMIT ≡ 2 ^ 28 }
+    // 64 conversations may be open at a time.
+    ensures conversations { CONVERSATION_LIMIT ≡ 64 }
+    // One read of a client gives 8,192 bytes at most, and one of a mirror 65,536.
+    ensures client { CLIENT_PIECE ≡ 2 ^ 13 }
+    ensures mirror { MIRROR_PIECE ≡ 2 ^ 16 }
 {}
 
 /// A law: where the last mirror that was asked has sent the one proof of the client's query over a set with this root, the

@@ -4,6 +4,7 @@ mod absent_objects;
 mod spoiled_leaves;
 mod unread_entries;
 mod unread_lines;
+mod wanted_objects;
 
 use osm_check::check;
 use osm_keys::{Edition, Manifest, write_manifest};
@@ -77,16 +78,26 @@ fn stocked(alloc: Global, tops: [Vec<u8>; 4]) -> Result<(Stock, Digest), Fail> {
 /// What is told of a query over these tops: by the evaluation, and by the checker of an empty answer and a proof of the
 /// nodes that the evaluation used.
 fn told(alloc: Global, text: &str, tops: [Vec<u8>; 4]) -> Result<(String, String), Fail> {
-    let query = parse(alloc, text.as_bytes())?;
     let (stock, root) = stocked(alloc, tops)?;
+    told_over(alloc, text, &stock, &root)
+}
+
+/// The same over the nodes of a stock, under a root.
+fn told_over(
+    alloc: Global,
+    text: &str,
+    stock: &Stock,
+    root: &Digest,
+) -> Result<(String, String), Fail> {
+    let query = parse(alloc, text.as_bytes())?;
     let mut shelf = stock.shelf(alloc);
     let mut answer: Vec<u8> = Vec::new(alloc);
-    let fault = match evaluate(alloc, &query, &root, &mut shelf, &mut answer) {
+    let fault = match evaluate(alloc, &query, root, &mut shelf, &mut answer) {
         Ok(_) => format!(in alloc; "answered")?,
         Err(fault) => format!(in alloc; "{fault}")?,
     };
     let proof = proof_of(alloc, &shelf.parts()?)?;
-    let verdict = check(alloc, text.as_bytes(), &root, &answer, &proof)?;
+    let verdict = check(alloc, text.as_bytes(), root, &answer, &proof)?;
     Ok((fault, format!(in alloc; "{verdict}")?))
 }
 

@@ -1,7 +1,8 @@
-//! Trees whose tops are no nodes, or nodes of another tree: refused (E1) at each tree that is asked.
+//! Trees whose tops are no nodes, or nodes of another tree, or aren't there: refused (E1) at each tree that is asked.
 
-use super::{NODE, leaf, leaves, told};
+use super::{NODE, leaf, leaves, stocked, told, told_over};
 use std::test::Fail;
+use tree_node::digest_of;
 
 /// Queries, and the number of the tree whose top they walk, from 0.
 const QUERIES: [(&str, usize); 9] = [
@@ -38,6 +39,24 @@ fn tops_are_of_another_tree(rt: HostRuntime) -> Result<(), Fail> {
         let (fault, verdict) = told(alloc, query, tops)?;
         assert_eq!(rt; fault.as_str(), "E1", "{query}");
         assert_eq!(rt; verdict.as_str(), "no C6", "{query}");
+    }
+    Ok(())
+}
+
+/// A top that isn't there is told in another way than a manifest that isn't.
+#[test]
+fn tops_and_manifests_are_missed(rt: HostRuntime) -> Result<(), Fail> {
+    let alloc = rt.alloc();
+    for (query, tree) in QUERIES {
+        let tops = leaves(alloc, [&[NODE], &[], &[], &[]])?;
+        let top = digest_of(&tops[tree]);
+        let (mut stock, root) = stocked(alloc, tops)?;
+        for (key, wanted) in [(top, "E1"), (root, "E4")] {
+            stock.remove(&key);
+            let (fault, verdict) = told_over(alloc, query, &stock, &root)?;
+            assert_eq!(rt; fault.as_str(), wanted, "{query}");
+            assert_eq!(rt; verdict.as_str(), "no C4", "{query}");
+        }
     }
     Ok(())
 }

@@ -1,5 +1,6 @@
 //! Entries that aren't of the form of their trees: refused (E2) at each place that asks for them.
 
+use super::wanted_objects::{BACKS, CELLS, QUERIES, TAGS, Wanted};
 use super::{Entry, NODE, NODE_1, RELATION, RELATION_100, Trees, WAY, WAY_10, check_told};
 use std::test::Fail;
 
@@ -34,6 +35,25 @@ const OBJECTS: [(&str, &[Entry]); 16] = [
 fn objects_without_a_line(rt: HostRuntime) -> Result<(), Fail> {
     for (query, objects) in OBJECTS {
         check_told(&rt, query, [objects, &[], &[], &[]], ("E2", "no C7"))?;
+    }
+    Ok(())
+}
+
+/// The objects of which this one has no line.
+fn without_line(wanted: Wanted) -> &'static [Entry] {
+    match wanted {
+        Wanted::Node => BAD_NODE,
+        Wanted::Way => BAD_WAY,
+        Wanted::Relation => BAD_RELATION,
+    }
+}
+
+/// The same where an index names the object.
+#[test]
+fn named_objects_without_a_line(rt: HostRuntime) -> Result<(), Fail> {
+    for (query, wanted) in QUERIES {
+        let trees = [without_line(wanted), TAGS, CELLS, BACKS];
+        check_told(&rt, query, trees, ("E2", "no C7"))?;
     }
     Ok(())
 }

@@ -51,7 +51,8 @@ fn all_but(alloc: Global, parts: &[Part<'_>], left_out: usize) -> Result<Stock, 
     Ok(stock)
 }
 
-/// Whether a query is refused for a missing node over each shelf that lacks one node that it needs, and writes nothing.
+/// Whether a query is refused over each shelf that lacks one node that it needs, and writes nothing: the missing manifest is
+/// told where that is the node, and a missing node of a tree else.
 fn check_refused(
     rt: &(impl Abort + AllocGlobal),
     query: &Query<'_>,
@@ -61,7 +62,12 @@ fn check_refused(
     let mut answer = Vec::new(rt.alloc());
     evaluate(rt.alloc(), query, snapshot.root(), &mut shelf, &mut answer)?;
     let parts = shelf.parts()?;
-    for place in 0..parts.len() {
+    for (place, part) in parts.iter().enumerate() {
+        let wanted = if part.digest() == *snapshot.root() {
+            EvalFault::Manifest(ManifestFault::Missing)
+        } else {
+            EvalFault::Walk(WalkFault::Missing)
+        };
         let stock = all_but(rt.alloc(), &parts, place)?;
         let mut answer = b"before".to_vec(rt.alloc())?;
         let result = evaluate(
@@ -71,12 +77,7 @@ fn check_refused(
             &mut stock.shelf(rt.alloc()),
             &mut answer,
         );
-        let is_missing = matches!(
-            result,
-            Err(EvalFault::Walk(WalkFault::Missing))
-                | Err(EvalFault::Manifest(ManifestFault::Missing))
-        );
-        assert!(rt; is_missing, "{result:?}");
+        assert_eq!(rt; result.err(), Some(wanted));
         assert_eq!(rt; answer.as_slice(), b"before".as_slice());
     }
     Ok(())

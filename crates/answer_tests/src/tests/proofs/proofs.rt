@@ -4,9 +4,10 @@ use super::rows::Row;
 use super::{larger_rows, proved_over, rows};
 use crate::tests::{snapshot_of, texts_of_sets};
 use opl_codec::read_set;
+use osm_check::check;
 use osm_index::{Edition, Snapshot};
 use osm_model::ObjectSet;
-use osm_prove::{answer, prove, read_proof, write_proof};
+use osm_prove::{Proved, answer, prove, read_proof, write_proof};
 use ql_plain::answer_plain;
 use ql_syntax::parse;
 use std::alloc::Global;
@@ -81,7 +82,7 @@ fn proofs_are_those_of_the_rows(rt: HostRuntime) -> Result<(), Fail> {
     check_rows(&rt, texts_of_sets::MANY, &larger_rows::OVER_MANY)
 }
 
-/// The manifest, the top of the objects and a leaf under it; no leaf where the id is above all keys.
+/// The manifest, the top of the objects and a leaf under it; no leaf where the id is above all keys. Each is checked.
 #[test]
 fn only_the_leaf_that_is_met_is_listed(rt: HostRuntime) -> Result<(), Fail> {
     let alloc = rt.alloc();
@@ -96,7 +97,22 @@ fn only_the_leaf_that_is_met_is_listed(rt: HostRuntime) -> Result<(), Fail> {
         assert_eq!(rt; proved.answer.as_slice(), answer.as_bytes());
         let parts = read_proof(alloc, &proved.proof)?;
         assert_eq!(rt; parts.len(), nodes);
+        check_yes(&rt, query, &proved)?;
     }
+    Ok(())
+}
+
+/// Whether the checker says yes to what was proved.
+fn check_yes(rt: &(impl Abort + AllocGlobal), query: &str, proved: &Proved) -> Result<(), Fail> {
+    let verdict = check(
+        rt.alloc(),
+        query.as_bytes(),
+        &proved.root,
+        &proved.answer,
+        &proved.proof,
+    )?;
+    let told = format!(in rt.alloc(); "{verdict}")?;
+    assert_eq!(rt; told.as_str(), "yes", "{query}");
     Ok(())
 }
 

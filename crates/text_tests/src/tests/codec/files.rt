@@ -135,6 +135,23 @@ fn memory_changes_no_line(rt: HostRuntime) -> Result<(), LoadFault> {
     two_lines(&rt, alloc)
 }
 
+/// Both lines before a fault come, and then the fault whenever the reader is asked.
+#[test]
+fn a_fault_is_told_again(rt: HostRuntime) -> Result<(), LoadFault> {
+    let file = "n1 x1 y1\nw2 Nn1,n2\nn3 x3\nn4 x4 y4\n";
+    let mut reader = LineReader::new(rt.alloc(), slow(file, 7));
+    for wanted in [Some((1, 1)), Some((2, 2))] {
+        let told = next_id(&mut reader)?;
+        assert!(rt; told == wanted, "{told:?}");
+    }
+    let wanted = fault(3, OplCause::NoLocation, 5);
+    for _ in 0..2 {
+        let told = next_id(&mut reader).err();
+        assert!(rt; told == wanted, "{told:?}");
+    }
+    Ok(())
+}
+
 #[test]
 fn pieces_end_where_the_reader_does(rt: HostRuntime) {
     let mut reader = b"ab\nc".as_slice();
