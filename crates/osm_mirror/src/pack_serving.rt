@@ -33,13 +33,7 @@ pub(crate) fn serve_if_pack(
             None => serve_pack(rt, mirror, port, connections, max_work),
         }),
         Err(PackFault::NotAPack | PackFault::Device) => None,
-        Err(fault) => Some(tell(
-            rt,
-            NotAnswered::Pack(fault),
-            file,
-            "",
-            error.get(),
-        )),
+        Err(fault) => Some(tell(rt, NotAnswered::Pack(fault), file, "", error.get())),
     }
 }
 
@@ -54,9 +48,7 @@ fn serve_pack(
     match listen(rt, port, false) {
         Ok((sockets, address)) => {
             let line = pack_listening_line(rt.alloc(), address, mirror.root());
-            let outcome = serve_over(
-                rt, mirror, line, sockets, connections, max_work, NoLookout,
-            );
+            let outcome = serve_over(rt, mirror, line, sockets, connections, max_work, NoLookout);
             report_served(rt, outcome)
         }
         Err(error) => port_refused(rt, port, &error),

@@ -126,9 +126,7 @@ fn serve_snapshot(
                 ChangeLookout::new(rt.alloc(), folder)
             };
             let line = listening_line(rt.alloc(), address, &snapshot);
-            let outcome = serve_over(
-                rt, snapshot, line, sockets, connections, max_work, lookout,
-            );
+            let outcome = serve_over(rt, snapshot, line, sockets, connections, max_work, lookout);
             report_served(rt, outcome)
         }
         Err(error) => port_refused(rt, port, &error),
@@ -154,7 +152,7 @@ pub(crate) fn listen(
 
 /// Serves a set, however it is held, over sockets that listen. At first it says this line, which tells where they listen and
 /// over what. A line that standard error can't take at once is dropped.
-pub(crate) fn serve_over<M: Mirror + Drop, L: Lookout<M>>(
+pub(crate) fn serve_over<M: Mirror + Drop, L: Lookout<M> + Drop>(
     rt: &HostRuntime,
     mirror: M,
     line: Result<String, AllocError>,
