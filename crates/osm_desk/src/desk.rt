@@ -228,7 +228,7 @@ impl Desk<Snapshot> {
 
     /// Takes an event, and gives the bytes for each connection that has some to get: for a piece those of its own
     /// connection, which may be none, and for any other event nothing. The program serves by `osm_traffic::serve_many`,
-    /// which makes the same steps by the calls below.
+    /// which makes the same steps by the calls of a desk over any mirror.
     ///
     /// # Errors
     ///

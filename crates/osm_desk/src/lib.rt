@@ -3,7 +3,7 @@
 //! A [`Desk`] takes one event after the other: a connection is opened, a piece of its bytes arrives, it ends, or changes
 //! are published. Each connection gets what it would get alone: the laws say so over what happens, whatever the others
 //! do in between. [`Desk::serve_on`] drives one connection over a reader and a writer. A [`Lookout`] looks for changes to
-//! publish.
+//! publish; [`NoLookout`] finds none.
 #![tactic(auto)]
 
 mod desk;
