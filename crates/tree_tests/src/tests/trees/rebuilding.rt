@@ -61,6 +61,7 @@ fn can_change(entries: &[Entry<'_>], changes: &[EntryChange]) -> bool
 fn build_old(
     alloc: Global,
     entries: &[Entry<'_>],
+    tree: Tree,
     changes: &[EntryChange],
     stock: &mut Stock,
 ) -> Result<Digest, Fail>
@@ -69,7 +70,7 @@ fn build_old(
     if !can_change(entries, changes) {
         return Err(Fail::from("the tree can't be changed so"));
     }
-    Ok(build(alloc, entries, Tree::Cells, Shape::Two, stock)?)
+    Ok(build(alloc, entries, tree, Shape::Two, stock)?)
 }
 
 /// The level of the node with this digest, which is the second of its bytes.
@@ -92,7 +93,7 @@ fn rebuilt(
     changes: &[EntryChange],
 ) -> Result<(Top, Digest), Fail> {
     let mut stock = Stock::new(alloc);
-    let digest = build_old(alloc, entries, changes, &mut stock)?;
+    let digest = build_old(alloc, entries, Tree::Cells, changes, &mut stock)?;
     let level = level_of(alloc, &stock, &digest)?;
     let rebuilt = rebuild(alloc, &mut stock.shelf(alloc), &digest, changes)?;
     Ok((Top { digest, level }, rebuilt.top))
@@ -231,7 +232,7 @@ fn is_lowered(
     changes: &[EntryChange],
 ) -> Result<(), Fail> {
     let mut stock = Stock::new(alloc);
-    let top = build_old(alloc, entries, changes, &mut stock)?;
+    let top = build_old(alloc, entries, Tree::Cells, changes, &mut stock)?;
     // None is added and two are gone. The old top, the leaf that goes, and the new top were given.
     assert!(rt; counted(alloc, stock.shelf(alloc), &top, changes)? == (0, 2, 3));
     Ok(())
@@ -246,4 +247,62 @@ fn rebuilds_after_refused_memory(rt: HostRuntime) -> Result<(), Fail> {
     let entries = keys_alone(alloc, b"\x09\x0a\x0b", 1)?;
     let changes = vec![in alloc; entry_change(alloc, b"\x0b", None)?]?;
     is_lowered(&rt, alloc, entries.as_slice(), changes.as_slice())
+}
+
+/// The entry of a node at 0, 0 in a tree.
+fn entry_of_node(alloc: Global, tree: Tree, id: u64) -> Result<(Vec<u8>, Vec<u8>), Fail> {
+    let (front, value) = match tree {
+        Tree::Objects => (
+            b"\x01".as_slice(),
+            format!(in alloc; "n{id} v0 dV c0 t i0 u T x0 y0")?.into_bytes(),
+        ),
+        _ => (b"\x03\x84\x07\x08".as_slice(), [0; 8].to_vec(alloc)?),
+    };
+    let mut key = front.to_vec(alloc)?;
+    key.extend_from_slice(&(id | 1 << 63).to_be_bytes())?;
+    Ok((key, value))
+}
+
+/// Whether the tree of the entries, from which one key is taken away, is rebuilt within the bound: beside the nodes that are
+/// gone, the shelf gives one for each level at most.
+fn check_used(
+    rt: &(impl Abort + AllocGlobal),
+    tree: Tree,
+    entries: &[Entry<'_>],
+    changes: &[EntryChange],
+) -> Result<(), Fail> {
+    let alloc = rt.alloc();
+    let mut stock = Stock::new(alloc);
+    let top = build_old(alloc, entries, tree, changes, &mut stock)?;
+    let levels = usize::from(level_of(alloc, &stock, &top)?).saturating_add(1);
+    let (added, gone, used) = counted(alloc, stock.shelf(alloc), &top, changes)?;
+    assert!(rt;
+        0 < added && added <= gone.saturating_add(levels),
+        "{added} {gone} {levels}"
+    );
+    assert!(rt;
+        used <= gone.saturating_add(levels),
+        "{used} {gone} {levels}"
+    );
+    Ok(())
+}
+
+/// The object tree and the cell tree of the nodes 1 to 4,000 at 0, 0, from which node 2,000 is taken away.
+#[test]
+fn rebuilding_uses_few_nodes(rt: HostRuntime) -> Result<(), Fail> {
+    let alloc = rt.alloc();
+    for tree in [Tree::Objects, Tree::Cells] {
+        let mut rows = Vec::new(alloc);
+        for id in 1..=4000 {
+            rows.push(entry_of_node(alloc, tree, id)?)?;
+        }
+        let mut entries = Vec::new(alloc);
+        for (key, value) in rows.iter() {
+            entries.push(Entry { key, value })?;
+        }
+        let (key, _) = entry_of_node(alloc, tree, 2000)?;
+        let changes = vec![in alloc; entry_change(alloc, &key, None)?]?;
+        check_used(&rt, tree, entries.as_slice(), changes.as_slice())?;
+    }
+    Ok(())
 }

@@ -3,11 +3,19 @@
 use super::{apply, changes_as_built, changes_of, is_built, nodes_of, second};
 use crate::tests::texts_of_sets::ALL_KINDS;
 use osm_index::Delta;
+use osm_prove::answer;
 use std::test::Fail;
 
 /// `ALL_KINDS` without n1.
 const WITHOUT_N1: &str =
     "n2 x13.4000001 y52.5\nw10 Thighway=primary,name=A%20%B Nn1,n2,n1\nr100 Ttype=route Mw10@outer,n99@stop,r100@\n";
+
+/// Queries that are asked once n1 is deleted, and their answers: what listed it still does.
+const AFTER_N1: [(&str, &str); 3] = [
+    ("node(1);out;", ""),
+    ("node;out ids;", "n2\n"),
+    ("way(10);out skel;", "w10 Nn1,n2,n1\n"),
+];
 
 #[test]
 fn a_manifest_alone_changes(rt: HostRuntime) -> Result<(), Fail> {
@@ -33,6 +41,10 @@ fn a_deleted_node_leaves_its_references(rt: HostRuntime) -> Result<(), Fail> {
     let Delta { added: _, gone: _ } = apply(alloc, &mut snapshot, &changes)??;
     assert_eq!(rt; snapshot.manifest().tops[3], backs);
     assert!(rt; is_built(alloc, &snapshot, WITHOUT_N1, 1)?);
+    for (query, wanted) in AFTER_N1 {
+        let answered = answer(alloc, &snapshot, query.as_bytes())?;
+        assert_eq!(rt; answered.answer.as_slice(), wanted.as_bytes(), "{query}");
+    }
     Ok(())
 }
 
