@@ -1,6 +1,6 @@
 //! Laws of what the server did. There is nothing to do when they run.
 
-ghost use Rattle.std.specs.Prelude.{◌++◌, ◌∷◌, ℕ, List, Result, true};
+ghost use Rattle.std.specs.Prelude.{◌≡◌, ◌++◌, ◌∷◌, ◌^◌, ℕ, List, Result, true};
 ghost use Rattle.osm_desk.specs.Desks.{Desk, fresh};
 ghost use Rattle.osm_desk.specs.Happenings.{arrived};
 ghost use Rattle.osm_desk.specs.Runs.{RanOn, stood};
@@ -10,6 +10,7 @@ ghost use Rattle.osm_gate.specs.Terms.{Terms};
 ghost use Rattle.osm_keys.specs.Publications.{Publication};
 ghost use Rattle.osm_traffic.specs.Deeds.{Deed, Serves, in_order, parted, stepped};
 ghost use Rattle.osm_traffic.specs.Handed.{IsHandedAll, IsHandedItsOwn};
+ghost use Rattle.osm_traffic.specs.declared.serving.TheConstants.{PIECE_LIMIT};
 
 use osm_desk::runs_tell_each_its_own;
 
@@ -40,3 +41,8 @@ pub fn each_is_handed_its_own()
 {
     runs_tell_each_its_own();
 }
+
+/// A law: one read of a connection takes 8,192 bytes at most.
+pub fn limits_law()
+    ensures { PIECE_LIMIT ≡ 2 ^ 13 }
+{}

@@ -18,7 +18,7 @@ mod traffic_fault;
 mod welcome;
 mod writing;
 
-pub use laws::{each_is_handed_its_own, serving_is_a_run};
+pub use laws::{each_is_handed_its_own, limits_law, serving_is_a_run};
 pub use pieces::give_piece;
 pub use serving::serve_many;
 pub use traffic::{News, Reading, Room, Traffic, Writing};
