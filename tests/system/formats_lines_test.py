@@ -25,8 +25,8 @@ from trees import digest, reference
 # Two nodes that share a digest, a tree of more than 2^29 entries, a file of 2^32 reads.
 UNREACHED = {"I1", "I4", "O15"}
 
-# How the page shortens a root, and the ports that it names.
-SHORTENED = {"e669..": "[0-9a-f]{64}", "8080, over": r"\d+, over", "8090, relays": r"\d+, relays"}
+# How the page shortens a root, and the ports and the mirror that it names (the mirror's name has to lead somewhere).
+SHORTENED = {"e669..": "[0-9a-f]{64}", "8080, over": r"\d+, over", "8090, relays": r"\d+, relays", "mirror.example": r"127\.0\.0\.1"}
 
 # The servers that begin with a line, by a part of it.
 LISTENERS = {" objects,": "serve", "over a pack,": "serve a pack", "relays ": "relay"}
@@ -262,7 +262,7 @@ def first_line(words):
 def lines_of_listeners(room):
     yield "serve", first_line(["serve", room.objects, "0"])
     yield "serve a pack", first_line(["serve", room.pack, "0"])
-    yield "relay", first_line(["relay", room.root, "mirror.example:8080", "0"])
+    yield "relay", first_line(["relay", room.root, "127.0.0.1:8080", "0"])
 
 
 def verdicts(room):

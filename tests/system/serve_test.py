@@ -337,8 +337,8 @@ def refused_in_request(request, *words):
 
 
 def check_broken_refusals(tally):
-    """The response without memory, 16 bytes a send, breaks off at each send in turn: then it is G2 in place of G3, and what
-    came is a beginning of that response."""
+    """The response without memory, 16 bytes a send, breaks off at each send in turn: then G2 follows G3, and what came is a
+    beginning of that response."""
     request = b"POST /api/checked HTTP/1.1\r\nContent-Length: 16\r\n\r\n" + QUERY.encode()
     number = refused_in_request(request)
     tally.check("an allocation of a request", number is not None)
@@ -350,7 +350,7 @@ def check_broken_refusals(tally):
         if rest == Outcome(b"", b"G3\n", 0):
             tally.check("the whole response without memory", got == NO_MEMORY and fails_at > len(NO_MEMORY) // 16, got, fails_at)
             break
-        holds = NO_MEMORY.startswith(got) and len(got) <= 16 * (fails_at - 1) and rest == Outcome(b"", b"G2\n", 0)
+        holds = NO_MEMORY.startswith(got) and len(got) <= 16 * (fails_at - 1) and rest == Outcome(b"", b"G3\nG2\n", 0)
         tally.check(f"without memory, send {fails_at}", holds, got, rest)
         if not holds:
             break
