@@ -35,7 +35,8 @@ def main():
     if not pack.exists():
         subprocess.run([PROGRAM, "pack", extract, pack], check=True, stdout=subprocess.DEVNULL)
     with extract.open("rb") as lines:
-        middle = sum(1 for line in lines if line.startswith(b"n")) // 2
+        nodes = [line[1 : line.index(b" ")].decode() for line in lines if line.startswith(b"n")]
+    middle = nodes[len(nodes) // 2]
     starts = []
     for _ in range(5):
         mirror, _, seconds = started(pack)
