@@ -157,6 +157,9 @@ def check_words(tally, folder):
     told_line = outcome.stderr.split(b"\n")[0]
     wanted = f"error: invalid value '{folder}' for '--changes <DIR>': a pack takes no changes".encode()
     tally.check("changes", outcome.status == 2 and outcome.stdout == b"" and told_line.startswith(wanted), outcome)
+    # A unit for systemd can only leave the word empty.
+    with server(pack, "--changes", "") as running:
+        tally.check("an empty folder of changes", b", over a pack, " in running.line, running.line)
     outcome = run([PROGRAM, "serve", folder / "none.pack", "0"])
     tally.check("no file", outcome == Outcome(b"", b"device\n", 3), outcome)
     # A pipe is read once, as a text.
