@@ -36,6 +36,7 @@ WORKS = [
     (b"nwr[highway];out ids;", 1107),
     (b"node[highway][!name];out ids;", 1003),
     (b"(node(1);way(10););out ids;", 1607),
+    (b"node(52.49999999999,13.40000004,52.6,13.5);out ids;", 803),
 ]
 
 GREATEST = (1 << 64) - 1

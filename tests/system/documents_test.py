@@ -27,7 +27,9 @@ def block_at(text, start):
 
 
 def exported_by(crate):
-    """The names that a crate exports."""
+    """The names that a crate exports: the program exports none."""
+    if not (crate / "src/lib.rt").is_file():
+        return set()
     uses = re.findall(r"^pub use ([^;]*);", (crate / "src/lib.rt").read_text(encoding="utf-8"), re.MULTILINE)
     return set(re.findall(r"\b[A-Z]\w*\b", " ".join(uses)))
 

@@ -288,7 +288,7 @@ def check_works(tally, page):
             for budget, want in [(work, Outcome(b"yes\n", b"", 0)), (work - 1, Outcome(b"", b"no work\n", 3))]:
                 outcome = run([PROGRAM, "check", "--max-work", str(budget), root, *files[1:]])
                 tally.check(f"{query} within {budget}", outcome == want and size_is, outcome)
-    check_found(tally, "works", len(table) - 1, 6)
+    check_found(tally, "works", len(table) - 1, 7)
 
 
 # ---- The command line and HTTP

@@ -85,7 +85,14 @@ def check_meanings(tally, folder):
         tally.check("budget", answer_to(packed_one, request).startswith(b"HTTP/1.1 503 "), answer_to(packed_one, request))
 
 
+# A pack's header, in bytes.
+HEADER_LEN = 60
+
 QUERIES = ["node(1);out;", "node;out;", "way[highway];>;out meta;", "node(50,5,60,20);out ids;"]
+
+
+# No other query of these tests needs a node that this one needs.
+APART = "way(10);<;out ids;"
 
 
 def check_damage(tally, folder):
@@ -97,23 +104,43 @@ def check_damage(tally, folder):
         requests = [asked(query) for query in QUERIES]
         wanted = [answer_to(running, request) for request in requests]
         tally.check("as it is", all(it.startswith(b"HTTP/1.1 200 OK\r\n") for it in wanted), wanted)
-        refused = 0
-        for at in range(0, len(good), 7):
+
+        def damage(change, place):
+            """The file is changed at this place, once the mirror keeps nothing of it: it has failed a query."""
+            file.truncate(0)
+            tally.check("an empty file", answer_to(running, asked(APART)) == DEVICE)
+            file.seek(0)
+            file.write(good)
+            change(place)
+
+        def mend():
+            file.seek(0)
+            file.write(good)
+
+        def turn(at):
             file.seek(at)
             file.write(bytes([good[at] ^ (1 << at % 8)]))
+
+        refused = 0
+        for at in range(0, len(good), 7):
+            damage(turn, at)
             for query, request, want in zip(QUERIES, requests, wanted):
                 got = answer_to(running, request)
                 refused += got == DEVICE
                 tally.check(f"byte {at}, {query}", got in (want, DEVICE), got[:200])
-            file.seek(at)
-            file.write(good[at : at + 1])
+            mend()
+            again = [answer_to(running, request) for request in requests]
+            tally.check(f"byte {at}, well again", all(got in (want, DEVICE) for got, want in zip(again, wanted)), again)
+            again = [answer_to(running, request) for request in requests]
+            tally.check(f"byte {at}, well again for good", again == wanted, again)
         tally.check("bits that matter", refused > len(good) // 14, refused)
         for length in range(0, len(good), 11):
-            file.truncate(length)
-            for query, request in zip(QUERIES, requests):
-                tally.check(f"cut at {length}, {query}", answer_to(running, request) == DEVICE)
-            file.seek(0)
-            file.write(good)
+            damage(file.truncate, length)
+            for query, request, want in zip(QUERIES, requests, wanted):
+                got = answer_to(running, request)
+                # The header isn't read again, and a node that is there is as good as in a whole file.
+                tally.check(f"cut at {length}, {query}", got == DEVICE or (got == want and length > HEADER_LEN), got[:200])
+            mend()
         again = [answer_to(running, request) for request in requests]
         tally.check("well again", again == wanted, again)
         root = asked("", "/api/root").replace(b"?data=", b"")
@@ -121,6 +148,11 @@ def check_damage(tally, folder):
         tally.check("the root is known", answer_to(running, root).endswith(f"{root_of(b'F', b'2')}\n".encode()))
         bad = asked("node(;out;")
         tally.check("a query that doesn't read", b" 400 " in answer_to(running, bad).split(b"\r\n")[0], answer_to(running, bad))
+        kept = [answer_to(running, request) for request in requests]
+        tally.check("what is kept is answered from an empty file", kept == wanted, kept)
+        tally.check("more isn't", answer_to(running, asked(APART)) == DEVICE)
+        kept = [answer_to(running, request) for request in requests]
+        tally.check("and nothing is kept then", kept == [DEVICE] * len(requests), kept)
 
 
 def check_other_pack(tally, folder):

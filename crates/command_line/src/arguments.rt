@@ -4,8 +4,8 @@ ghost use Rattle.std.specs.Prelude.{◌≡◌, IfOk, false, map, option_map};
 ghost use Rattle.std.specs.String.{string_bytes};
 ghost use Rattle.clap.specs.declared.builder.command.Command.TheViews.{out-Command as fields_of};
 ghost use Rattle.clap.specs.Words.{app_of, first_of, found_of, rows_of, rule_of, with_rule};
-ghost use Rattle.command_line.specs.Arguments.{text_of, texts_of, wanted, with_wanted};
-ghost use Rattle.command_line.specs.internal.Commands.{IsCommand};
+ghost use Rattle.command_line.specs.Arguments.{text_of, texts_of, wanted};
+ghost use Rattle.command_line.specs.internal.Commands.{IsCommand, with_wanted};
 
 use clap::{Arg, ArgMatches, Command};
 use std::alloc::{AllocError, Global};

@@ -12,7 +12,8 @@ use Rattle.httparse.specs.Spans.{AreFieldsAt, IsResponseOf, IsResponseAt, FindsR
 use Rattle.httparse.specs.Grammar.{LineEnd, crlf, lf, print_blank, print_version, print_reason, print_end, print_section, ReadsResponse, ResponseHead, print_response}
 use Rattle.httparse.proofs.GrammarLemmas.{print_response-append}
 use Rattle.http_messages.specs.HeadEnds.{begins_with_break}
-use Rattle.http_ranges.specs.Heads.{HasNone, IsReadAs}
+use Rattle.http_ranges.specs.Heads.{HasNone}
+use Rattle.http_ranges.specs.internal.Told.{IsReadAs}
 use Rattle.http_ranges.specs.declared.limits.TheConstants.{FIELD_LIMIT}
 
 blank-none : (es : List LineEnd) (rest : List ℕ) → begins_with_break (print_blank es ++ rest) ≡ false → es ≡ []

@@ -3,7 +3,7 @@ use Rattle.std.proofs.Common.{◌≡◌, ◌∙◌, ◌+◌, ℕ, List, [], ◌+
 use Rattle.std.specs.Prelude.{Option}
 use Rattle.std.proofs.lemmas.List.{take-append-drop}
 use Rattle.http_ranges.specs.Heads.{IsJudged}
-use Rattle.http_ranges.specs.Passing.{Passes, TakesBody, TakesHead, TakesNext, TakesResponse}
+use Rattle.http_ranges.specs.internal.Passing.{Passes, TakesBody, TakesHead, TakesNext, TakesResponse}
 use Rattle.http_ranges.specs.declared.byte_range.ByteRange.{ByteRange}
 use Rattle.http_ranges.specs.declared.judging.Given.{Given}
 use Rattle.http_ranges.specs.declared.judging.Judgement.{Judgement}

@@ -43,10 +43,6 @@ target_of text =
 abbrev pub text_of : Address → AddressText
 text_of address = (address.host.now, address.path.now)
 
-abbrev pub told_address : Option Address → Option AddressText
-told_address None = None
-told_address (Some address) = Some (text_of address)
-
 abbrev pub told_target : Target → TargetText
 told_target target.File = file
 told_target (target.Http address) = http (text_of address)

@@ -2,9 +2,7 @@
 -- Source: RFC 9112, sections 2.1 and 4, as far as httparse's grammar takes it; the limit is this project's.
 use Rattle.std.specs.Prelude.{◌≡◌, ◌≤◌, ◌⊎◌, ℕ, List, [], Option, length, map}
 use Rattle.httparse.specs.Grammar.{ReadsResponse, ResponseHead, status_code}
-use Rattle.httparse.specs.Spans.{IsResponseAt, name_and_value}
-use Rattle.httparse.specs.declared.spans.HeaderSpan.{HeaderSpan}
-use Rattle.httparse.specs.declared.spans.ResponseSpans.{ResponseSpans}
+use Rattle.httparse.specs.Spans.{name_and_value}
 use Rattle.http_messages.specs.Fields.{FieldPair}
 use Rattle.http_ranges.specs.Judgements.{judged}
 use Rattle.http_ranges.specs.declared.byte_range.ByteRange.{ByteRange}
@@ -21,10 +19,6 @@ pub record IsHead (bytes : List ℕ) (h : ResponseHead) : Type 0 where
 
 abbrev pub HasNone : List ℕ → Type 0
 HasNone bytes = (h : ResponseHead) → ¬ (IsHead bytes h)
-
--- these spans cover the parts of such a head
-abbrev pub IsReadAs : List ℕ → List HeaderSpan → ResponseSpans → Type 0
-IsReadAs bytes headers spans = (h : ResponseHead) × IsHead bytes h × IsResponseAt bytes headers spans h
 
 -- the fields of a head: their names and values
 abbrev pub fields_of : ResponseHead → List FieldPair

@@ -5,8 +5,8 @@ pub mod Fields
 pub mod Heads
 pub mod Judgements
 pub mod KeptParts
-pub mod Passing
 pub mod Ranges
 pub mod Requests
 pub mod Spans
 pub mod Transfers
+pub mod internal

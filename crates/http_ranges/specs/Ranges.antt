@@ -1,7 +1,6 @@
 -- The range that a response is of, as its field says it.
 -- Source: RFC 9110, section 14.4; that the size is told too is this project's.
 use Rattle.std.specs.Prelude.{ℕ, ◌+◌, List, Option, Some, None, if◌then◌else◌, ◌==◌, codes, drop, nat_eq, position, take}
-use Rattle.std.specs.Borrow.{Bor}
 use Rattle.std.specs.List.{starts_with}
 use Rattle.http_ranges.specs.Fields.{number_of}
 use Rattle.http_ranges.specs.declared.content_range.ContentRange.{ContentRange}
@@ -13,10 +12,6 @@ parts_of bytes (Some place) = Some (take place bytes, drop (place + 1) bytes)
 
 abbrev pub parts_at : ℕ → List ℕ → Option (List ℕ × List ℕ)
 parts_at wanted bytes = parts_of bytes (position (λ b. b == wanted) bytes)
-
-abbrev pub told_parts : Option (Bor (List ℕ) × Bor (List ℕ)) → Option (List ℕ × List ℕ)
-told_parts None = None
-told_parts (Some parts) = Some (parts.0.now, parts.1.now)
 
 abbrev pub of_numbers : Option ℕ → Option ℕ → Option ℕ → Option ContentRange
 of_numbers None last size = None

@@ -3,7 +3,8 @@
 ghost use Rattle.std.specs.Prelude.{◌≡◌, ◌==◌, ◌<◌, IfSome, length, position};
 ghost use Rattle.std.specs.List.{list_all};
 ghost use Rattle.http_ranges.specs.AddressBytes.{has_port, is_host, is_host_byte, is_path, is_visible};
-ghost use Rattle.http_ranges.specs.Addresses.{address_of, target_of, told_address, told_target};
+ghost use Rattle.http_ranges.specs.Addresses.{address_of, target_of, told_target};
+ghost use Rattle.http_ranges.specs.internal.Told.{told_address};
 ghost use Rattle.http_ranges.specs.declared.address.TheConstants.{SLASH};
 
 /// What ends the name of a server.

@@ -1,7 +1,7 @@
 //! The connections to a server, and what is awaited of them.
 
 ghost use Rattle.std.specs.Prelude.{◌<◌, IfOk, OnOk};
-ghost use Rattle.http_ranges.specs.Passing.{HasBody, IsGiven, TakesBody, TakesHead, TakesResponse};
+ghost use Rattle.http_ranges.specs.internal.Passing.{HasBody, IsGiven, TakesBody, TakesHead, TakesResponse};
 ghost use Rattle.http_ranges.specs.declared.limits.TheConstants.{WIRES};
 
 use crate::byte_range::ByteRange;

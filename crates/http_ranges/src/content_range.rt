@@ -2,7 +2,8 @@
 
 ghost use Rattle.std.specs.Prelude.{◌≡◌, ◌==◌, ◌<◌, IfSome, length, position};
 ghost use Rattle.http_ranges.specs.Fields.{number_of};
-ghost use Rattle.http_ranges.specs.Ranges.{by_dash, by_slash, of_numbers, parts_at, range_of, told_parts};
+ghost use Rattle.http_ranges.specs.Ranges.{by_dash, by_slash, of_numbers, parts_at, range_of};
+ghost use Rattle.http_ranges.specs.internal.Told.{told_parts};
 
 use crate::fields::number_of;
 

@@ -3,7 +3,8 @@
 ghost use Rattle.std.specs.Prelude.{◌≡◌, IfNone, IfSome, length};
 ghost use Rattle.httparse.specs.Spans.{IsResponseWithin};
 ghost use Rattle.http_messages.specs.HeadEnds.{begins_with_break};
-ghost use Rattle.http_ranges.specs.Heads.{HasNone, IsReadAs};
+ghost use Rattle.http_ranges.specs.Heads.{HasNone};
+ghost use Rattle.http_ranges.specs.internal.Told.{IsReadAs};
 ghost use Rattle.http_ranges.specs.declared.limits.TheConstants.{FIELD_LIMIT};
 
 use httparse::Status;

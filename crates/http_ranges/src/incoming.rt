@@ -1,7 +1,7 @@
 //! The bytes that came on a connection and aren't taken yet.
 
 ghost use Rattle.std.specs.Prelude.{◌≡◌, ◌<◌, ◌≤◌, [], ◌++◌, OnOk, drop, length};
-ghost use Rattle.http_ranges.specs.Passing.{Passes};
+ghost use Rattle.http_ranges.specs.internal.Passing.{Passes};
 
 use crate::limits::PIECE_LIMIT;
 use crate::not_given::NotGiven;

@@ -2,7 +2,7 @@
 
 ghost use Rattle.std.specs.Prelude.{◌≡◌, ◌<◌, ◌≤◌, [], ◌++◌, IfOk, IfSome, OnOk, drop, length, take};
 ghost use Rattle.http_messages.specs.HeadEnds.{head_length};
-ghost use Rattle.http_ranges.specs.Passing.{Passes, TakesBody, TakesHead, TakesNext};
+ghost use Rattle.http_ranges.specs.internal.Passing.{Passes, TakesBody, TakesHead, TakesNext};
 ghost use Rattle.http_ranges.specs.declared.limits.TheConstants.{HEAD_LIMIT};
 
 use crate::byte_range::ByteRange;

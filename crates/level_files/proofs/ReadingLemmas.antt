@@ -4,7 +4,7 @@ use Rattle.std.proofs.lemmas.List.{drop_all}
 use Rattle.std.specs.Prelude.{None, Option, Some, slice_index}
 use Rattle.external_sort.specs.Runs.{run_at}
 use Rattle.tree_stream.specs.declared.levels_read.NodeLen.{NodeLen}
-use Rattle.level_files.specs.Levels.{IsNextLen}
+use Rattle.level_files.specs.internal.Given.{IsNextLen}
 use Rattle.level_files.specs.internal.Keeping.{IsEnded, IsReading}
 use Rattle.level_files.specs.internal.Rows.{IsAt, IsRow, joined, len_in, nodes_of, passed_by}
 use Rattle.level_files.specs.declared.row_reader.RowReader.{RowReader}

@@ -1,8 +1,6 @@
 -- The nodes of levels that were written, and how far they were read again.
 -- Source: this project.
-use Rattle.std.specs.Prelude.{◌≡◌, ℕ, Bool, true, false, List, [], ◌∷◌, Option, Some, None, slice_index_or}
-use Rattle.tree_stream.specs.ReadBack.{IsLenOf}
-use Rattle.tree_stream.specs.declared.levels_read.NodeLen.{NodeLen}
+use Rattle.std.specs.Prelude.{◌≡◌, ℕ, Bool, true, false, List, [], ◌∷◌, slice_index_or}
 
 -- the nodes of a level, those that are yet to be read, and those whose lengths are yet to be read
 pub record LevelNodes : Type 0 where
@@ -18,11 +16,6 @@ unread_level nodes = record { nodes = nodes; unread = nodes; unmeasured = nodes 
 abbrev pub IsNext : List (List ℕ) → List (List ℕ) → Bool → List ℕ → Type 0
 IsNext old new true read = old ≡ read ∷ new
 IsNext old new false read = (old ≡ []) × (new ≡ [])
-
--- the first node was measured and is gone, or there was none
-abbrev pub IsNextLen : List (List ℕ) → List (List ℕ) → Option NodeLen → Type 0
-IsNextLen old new (Some len) = (bytes : List ℕ) × (old ≡ bytes ∷ new) × IsLenOf bytes len
-IsNextLen old new None = (old ≡ []) × (new ≡ [])
 
 -- the level with this number; one without nodes where it isn't there
 abbrev pub level_in : List LevelNodes → ℕ → LevelNodes

@@ -2,7 +2,8 @@
 
 ghost use Rattle.std.specs.Prelude.{◌≡◌, ◌≢◌, Err, IfOk, OnOk, drop, false, true};
 ghost use Rattle.external_sort.specs.Runs.{run_at};
-ghost use Rattle.level_files.specs.Levels.{IsNext, IsNextLen, unread_level};
+ghost use Rattle.level_files.specs.Levels.{IsNext, unread_level};
+ghost use Rattle.level_files.specs.internal.Given.{IsNextLen};
 ghost use Rattle.level_files.specs.internal.Keeping.{IsEnded, IsReading};
 ghost use Rattle.level_files.specs.internal.Rows.{nodes_of};
 

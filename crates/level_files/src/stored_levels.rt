@@ -1,7 +1,8 @@
 //! The nodes of four trees, to be read again.
 
 ghost use Rattle.std.specs.Prelude.{◌≡◌, ◌≢◌, ℕ, Err, IfOk, OnOk, false, true};
-ghost use Rattle.level_files.specs.Levels.{IsNext, IsNextLen, level_in, unread_level};
+ghost use Rattle.level_files.specs.Levels.{IsNext, level_in, unread_level};
+ghost use Rattle.level_files.specs.internal.Given.{IsNextLen};
 
 use crate::stored_level::StoredLevel;
 use external_sort::RunStore;

@@ -32,9 +32,9 @@ pub fn show(
     parts: Parts<'_>,
     most: Option<u64>,
 ) -> Result<Shown, AllocError>
-    // The headline: under the root of any publication, a text that is shown is the query's meaning over its set in
-    // this form, and the proof the one proof of the query, unless a node of the publication and a node that stands in
-    // the proof are two with one digest.
+    // The headline: under the root of any publication, a text that is shown is the query's meaning over its set in this
+    // form, and the proof the one proof of the query, unless a node of the publication and a different one in the proof
+    // have the same digest.
     ensures headline { (p : Publication) (text : Vec ℕ Global) → IsPublication p
         → root.now.0 ≡ root_of p → result ≡ Ok (Shown.Answer text)
         → IsProvedIn p query.now form text.items parts.entry.proof.now

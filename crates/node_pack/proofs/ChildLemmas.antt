@@ -12,7 +12,8 @@ use Rattle.tree_node.specs.declared.digest.Digest.{Digest}
 use Rattle.tree_node.specs.declared.tree.Tree.{Tree}
 use Rattle.tree_node.specs.declared.tree.Tree.TheVariants.{Backs, Cells, Objects, Tags}
 use Rattle.node_pack.specs.Known.{IsPlaced, IsTable}
-use Rattle.node_pack.specs.Packs.{HasChildren, Kept, child_digests, digests_of, node_in, record_bytes, table, table_in, top_digests}
+use Rattle.node_pack.specs.Packs.{HasChildren, Kept, child_digests, digests_of, node_in, record_bytes, table, top_digests}
+use Rattle.node_pack.specs.internal.Reading.{table_in}
 use Rattle.node_pack.specs.declared.place.Place.{Place}
 use Rattle.node_pack.proofs.RecordLemmas.{node_again, table_again}
 

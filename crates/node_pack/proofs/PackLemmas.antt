@@ -246,6 +246,13 @@ the_ok h = Ok h
 abbrev pub header_in : List ℕ → List Kept → Header
 header_in root nodes = record { root = record { 0 = root }; size = pack_len nodes; manifest = unwrap_or (place_in nodes root) no_place }
 
+-- the node with the root stands in the file
+pub root_near : (root : List ℕ) (nodes : List Kept) (place : Place) → IsPack (pack root nodes) root nodes → place_in nodes root ≡ Some place → place.at < 2 ^ 48
+root_near root nodes place is at =
+    let placed = (are_placed root nodes is (root ∷ []) (is.rooted, tt)).0 in
+    let same : placed.place ≡ place = (let both : Some placed.place ≡ Some place = sym placed.is ∙ at in cc) in
+    subst (λ (p : Place). p.at < 2 ^ 48) same placed.near
+
 -- What is read of the header of a pack.
 pub record HasHeader (root : List ℕ) (nodes : List Kept) (header : Header) : Type 0 where
   pub same : header.root.0 ≡ root

@@ -8,7 +8,8 @@ use Rattle.std.specs.HashMap.{HashMap}
 use Rattle.tree_node.proofs.shared.FieldLemmas.{wide32, wide64}
 use Rattle.tree_node.specs.declared.digest.Digest.{Digest}
 use Rattle.node_pack.specs.Known.{AreTrue, IsBetween, IsKnown, IsTable}
-use Rattle.node_pack.specs.Packs.{Kept, digests_of, no_place, node_in, record_bytes, record_len, table, table_in}
+use Rattle.node_pack.specs.Packs.{Kept, digests_of, no_place, node_in, record_bytes, record_len, table}
+use Rattle.node_pack.specs.internal.Reading.{table_in}
 use Rattle.node_pack.specs.Places.{first_place, place_bytes}
 use Rattle.node_pack.specs.declared.place.Place.{Place}
 use Rattle.node_pack.proofs.PlaceMaps.{all_and, all_known_stay}

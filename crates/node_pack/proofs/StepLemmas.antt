@@ -1,10 +1,10 @@
 -- The steps to the children of a node.
-use Rattle.std.proofs.Common.{◌≡◌, Bool, true, false, ℕ, List, [], ◌∷◌, ◌++◌, Option, Some, None, map, inl, inr, refl, sym, ap, subst, ◌∙◌, append_assoc}
+use Rattle.std.proofs.Common.{◌≡◌, Bool, true, false, ℕ, List, [], ◌∷◌, ◌++◌, Option, None, map, inl, inr, refl, sym, ap, subst, ◌∙◌, append_assoc}
 use Rattle.std.proofs.lemmas.List.{append-nil, map-append}
 use Rattle.tree_node.specs.Nodes.{Binding, Inner, Leaf, Link}
 use Rattle.tree_walk.specs.Choices.{AreThose}
 use Rattle.tree_walk.specs.Spans.{children_placed}
-use Rattle.node_pack.specs.Hints.{Announcement, IsLed, IsLedChild}
+use Rattle.node_pack.specs.Hints.{Announcement, IsLedChild}
 use Rattle.node_pack.specs.declared.step.Step.{Step}
 use Rattle.node_pack.specs.internal.Stepping.{AddsLed, Lead, lead_of, lead_to, leads_of}
 

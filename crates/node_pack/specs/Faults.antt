@@ -4,10 +4,8 @@ use Rattle.node_pack.specs.declared.fault.PackFault.{PackFault}
 use Rattle.node_pack.specs.declared.fault.PackFault.TheVariants as faults
 use Rattle.node_pack.specs.declared.read_at.ReadFault.{ReadFault}
 use Rattle.node_pack.specs.declared.read_at.ReadFault.TheVariants as reads
-use Rattle.outside_shelf.specs.declared.source.SourceFault.{SourceFault}
 use Rattle.node_pack.specs.declared.write_fault.WriteFault.{WriteFault}
 use Rattle.node_pack.specs.declared.write_fault.WriteFault.TheVariants as writes
-use Rattle.outside_shelf.specs.declared.source.SourceFault.TheVariants as sources
 use Rattle.tree_node.specs.declared.shelf.ShelfFault.{ShelfFault}
 use Rattle.tree_node.specs.declared.shelf.ShelfFault.TheVariants as shelves
 
@@ -15,11 +13,6 @@ use Rattle.tree_node.specs.declared.shelf.ShelfFault.TheVariants as shelves
 abbrev pub pack_fault_of : ReadFault → PackFault
 pack_fault_of reads.Device = faults.Device
 pack_fault_of reads.Memory = faults.Memory
-
--- what a refused read is to who asks for a node
-abbrev pub source_fault_of : ReadFault → SourceFault
-source_fault_of reads.Device = sources.Device
-source_fault_of reads.Memory = sources.Memory
 
 -- what a shelf that gave no node is to who writes a pack
 abbrev pub write_fault_of : ShelfFault → WriteFault

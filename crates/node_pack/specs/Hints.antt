@@ -1,6 +1,6 @@
 -- Which nodes a hint leads to.
 -- Source: this project's trees, docs/FORMATS.md.
-use Rattle.std.specs.Prelude.{◌≡◌, ◌⊎◌, ◌<◌, ℕ, List, Option, IfSome, length}
+use Rattle.std.specs.Prelude.{◌⊎◌, ◌<◌, ℕ, List, Option, IfSome, length}
 use Rattle.tree_node.specs.Nodes.{Link}
 use Rattle.tree_node.specs.Order.{IsBelow}
 use Rattle.tree_walk.specs.Ranges.{Begins, IsAtMost}

@@ -111,7 +111,3 @@ pub record IsPack (file root : List ℕ) (nodes : List Kept) : Type 0 where
 -- the node of a record, as far as the record has it
 abbrev pub node_in : List ℕ → List ℕ
 node_in bytes = take (from_be_bytes w32 (take 4 bytes)) (drop 4 bytes)
-
--- the table of a record
-abbrev pub table_in : List ℕ → List ℕ
-table_in bytes = drop (from_be_bytes w32 (take 4 bytes)) (drop 4 bytes)

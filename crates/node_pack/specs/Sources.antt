@@ -1,7 +1,8 @@
 -- What a source over a pack knows.
 -- Source: this project.
+use Rattle.std.specs.HashMap.{hash_map_len}
 use Rattle.std.specs.List.{AllByRecursion, Contains}
-use Rattle.std.specs.Prelude.{◌≡◌, ◌≤◌, ◌+◌, ◌⊎◌, ℕ, List, ◌++◌, Err, length, take}
+use Rattle.std.specs.Prelude.{◌≡◌, ◌≤◌, ◌+◌, ◌⊎◌, ℕ, List, ◌++◌, Err, Some, length, take}
 use Rattle.tree_node.specs.Digests.{digest}
 use Rattle.tree_node.specs.declared.digest.Digest.{Digest}
 use Rattle.node_pack.specs.Headers.{header_at}
@@ -37,10 +38,16 @@ module _ {F : Type 0} where
   abbrev pub Knows : PackSource F → List ℕ → Type 0
   Knows source = IsKnown source.places
 
-  -- It reads from a pack of the root with these nodes, and each place that it knows is the node's there. `reads` says what a
-  -- device reads.
+  -- how many places it knows
+  abbrev pub places_known : PackSource F → ℕ
+  places_known source = hash_map_len source.places
+
+  -- It reads from a pack of the root with these nodes, and each place that it knows is the node's there, as is the one that it
+  -- keeps of the root's node. `reads` says what a device reads.
   pub record IsOver (reads : F → List ℕ → Type 0) (source : PackSource F) (root : List ℕ) (nodes : List Kept) : Type 0 where
     pub is_read : reads source.file (pack root nodes)
     pub is_pack : IsPack (pack root nodes) root nodes
+    pub rooted : source.root.0 ≡ root
+    pub manifest : place_in nodes root ≡ Some source.manifest
     pub size : source.size ≡ pack_len nodes
     pub trues : AreTrue (place_in nodes) source.places

@@ -1,5 +1,6 @@
 -- Words that only private clauses cite: nothing that a reader of the promises must believe.
 pub mod Announcing
+pub mod Faults
 pub mod Gathering
 pub mod Reading
 pub mod Stepping

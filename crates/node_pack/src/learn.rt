@@ -1,7 +1,8 @@
 //! Where the children of a node stand.
 
+ghost use Rattle.std.specs.HashMap.{hash_map_len};
 ghost use Rattle.std.specs.List.{AllByRecursion};
-ghost use Rattle.std.specs.Prelude.{◌≡◌, ◌≤◌, ◌<◌, ◌^◌, ℕ, List, OnOk, Option, length};
+ghost use Rattle.std.specs.Prelude.{◌≡◌, ◌≤◌, ◌<◌, ◌+◌, ◌^◌, ◌⊎◌, ℕ, IfOk, List, OnOk, Option, Some, length};
 ghost use Rattle.node_pack.specs.Known.{AreTrue, IsKnown, IsPlaced, IsTable};
 ghost use Rattle.node_pack.specs.Packs.{HasChildren, Kept, digests_of, node_in, record_bytes};
 ghost use Rattle.node_pack.specs.declared.place.Place.{Place};
@@ -10,6 +11,7 @@ use crate::children::list_children;
 use crate::place::Place;
 use crate::read_at::ReadFault;
 use crate::record::split_record;
+use std::alloc::{AllocError, Global};
 use std::collections::HashMap;
 use tree_node::Digest;
 
@@ -68,13 +70,33 @@ fn learn_places(
     Ok(())
 }
 
+/// The places that are known before any node was read: that of the node with the root, if it is in this file.
+pub(crate) fn first_places(
+    alloc: Global,
+    root: Digest,
+    manifest: Place,
+) -> Result<HashMap<Digest, Place>, AllocError>
+    ensures only { IfOk result (λ places. (key : List ℕ) → IsKnown places key → key ≡ root.0) }
+    ensures few { IfOk result (λ places. hash_map_len places ≤ 1) }
+    ensures trues { (place_of : List ℕ → Option Place) → place_of root.0 ≡ Some manifest
+        → IfOk result (AreTrue place_of) }
+    ensures known { manifest.at < 2 ^ 48 → IfOk result (λ places. IsKnown places root.0) }
+{
+    let mut places = HashMap::new(alloc);
+    remember(root, manifest, &mut places)?;
+    Ok(places)
+}
+
 /// Remembers a place, if it is in this file.
-pub(crate) fn remember(
+fn remember(
     key: Digest,
     place: Place,
     places: &mut HashMap<Digest, Place>,
-) -> Result<(), ReadFault>
+) -> Result<(), AllocError>
     ensures keeps { (other : List ℕ) → IsKnown places.old other → IsKnown places.new other }
+    ensures only { (other : List ℕ) → IsKnown places.new other
+        → IsKnown places.old other ⊎ (other ≡ key.0) }
+    ensures one { hash_map_len places.new ≤ hash_map_len places.old + 1 }
     ensures trues { (place_of : List ℕ → Option Place) → AreTrue place_of places.old
         → place_of key.0 ≡ Some place → AreTrue place_of places.new }
     ensures known { place.at < 2 ^ 48 → OnOk result (IsKnown places.new key.0) }

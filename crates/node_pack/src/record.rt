@@ -1,7 +1,8 @@
 //! Records: a node after its length, and the places of its children.
 
 ghost use Rattle.std.specs.Prelude.{◌≡◌, ◌++◌, ◌+◌, ℕ, List, OnErr, OnOk, drop, min, take};
-ghost use Rattle.node_pack.specs.Packs.{node_in, table_in};
+ghost use Rattle.node_pack.specs.Packs.{node_in};
+ghost use Rattle.node_pack.specs.internal.Reading.{table_in};
 
 use crate::place::Place;
 use crate::read_at::{ReadAt, ReadFault};

@@ -1,7 +1,7 @@
 //! A source of nodes over a pack.
 
 ghost use Rattle.std.specs.Prelude.{◌≡◌, ◌≤◌, ◌++◌, ◌+◌, ◌↔◌, ℕ, Err, IfErr, IfOk, List, OnErr, OnOk, length, take};
-ghost use Rattle.node_pack.specs.Faults.{source_fault_of};
+ghost use Rattle.node_pack.specs.internal.Faults.{source_fault_of};
 ghost use Rattle.node_pack.specs.Headers.{header_at};
 ghost use Rattle.node_pack.specs.Packs.{IsPack, Kept, node_in, pack, place_in};
 ghost use Rattle.node_pack.specs.declared.header.Header.{Header};
@@ -9,12 +9,12 @@ ghost use Rattle.node_pack.specs.declared.header.Header.{Header};
 use crate::ahead::Ahead;
 use crate::fault::PackFault;
 use crate::header::{HEADER_LEN, read_header};
-use crate::learn::{learn, remember};
+use crate::learn::{first_places, learn};
 use crate::place::Place;
 use crate::read_at::{ReadAt, ReadFault};
 use crate::record::{append_node, read_record};
 use outside_shelf::{NodeSource, SourceFault};
-use std::alloc::Global;
+use std::alloc::{AllocError, Global};
 use std::collections::HashMap;
 use tree_node::Digest;
 
@@ -33,6 +33,8 @@ use tree_node::Digest;
 pub struct PackSource<F: ReadAt + Drop> {
     pub(crate) file: F,
     root: Digest,
+    /// Where the record of the node with the root stands, by the header.
+    manifest: Place,
     pub(crate) size: u64,
     pub(crate) places: HashMap<Digest, Place>,
     pub(crate) buffer: Vec<u8>,
@@ -41,7 +43,7 @@ pub struct PackSource<F: ReadAt + Drop> {
 }
 
 impl<F: ReadAt + Drop> PackSource<F> {
-    ghost use Rattle.node_pack.specs.Sources.{GivesKept, IsOpenFault, IsOver, Knows, last_record, root_in};
+    ghost use Rattle.node_pack.specs.Sources.{GivesKept, IsOpenFault, IsOver, Knows, last_record, places_known, root_in};
     ghost use Rattle.node_pack.specs.internal.Reading.{IsBrought};
 
     /// Reads the header of a pack. What the source needs later comes from `alloc` too.
@@ -60,11 +62,11 @@ impl<F: ReadAt + Drop> PackSource<F> {
         let mut buffer = Vec::new(alloc);
         file.read_at(0, size.min(HEADER_LEN as u64) as usize, &mut buffer)?;
         let header = read_header(buffer.as_slice(), size)?;
-        let mut places = HashMap::new(alloc);
-        remember(header.root, header.manifest, &mut places)?;
+        let places = first_places(alloc, header.root, header.manifest)?;
         Ok(PackSource {
             file,
             root: header.root,
+            manifest: header.manifest,
             size,
             places,
             buffer,
@@ -78,6 +80,36 @@ impl<F: ReadAt + Drop> PackSource<F> {
         ensures { result ≡ root_in self.now }
     {
         self.root
+    }
+
+    /// How many places it knows. Each takes some fifty bytes.
+    pub fn places_len(&self) -> usize
+        ensures { result ≡ places_known self.now }
+    {
+        self.places.len()
+    }
+
+    /// Forgets the places of all nodes but that with the root, so that a source that is kept for long doesn't grow for ever.
+    /// They are learned again where nodes are read from the root down. What it learns then takes its memory from `alloc`.
+    ///
+    /// Hints that were heard stay. So does what a remote file was told to expect, eight bytes a record, since it may still
+    /// have it. Refused only where memory is, and then nothing is forgotten.
+    pub fn forget(&mut self, alloc: Global) -> Result<(), AllocError>
+        ensures root { root_in self.new ≡ root_in self.old }
+        // It goes on reading from the same pack.
+        ensures over { (root : List ℕ) (nodes : List Kept) → IsOver F.reads self.old root nodes
+            → IsOver F.reads self.new root nodes }
+        // It knows no other place than the root's, and over a pack it does know that one.
+        ensures only { OnOk result ((key : List ℕ) → Knows self.new key → key ≡ (root_in self.new).0) }
+        ensures few { OnOk result (places_known self.new ≤ 1) }
+        ensures knows { (root : List ℕ) (nodes : List Kept) → IsOver F.reads self.old root nodes
+            → OnOk result (Knows self.new root) }
+        ensures unchanged { OnErr result ((key : List ℕ) → Knows self.new key ↔ Knows self.old key) }
+        ensures as_many { OnErr result (places_known self.new ≡ places_known self.old) }
+    {
+        let places = first_places(alloc, self.root, self.manifest)?;
+        self.places = places;
+        Ok(())
     }
 
     /// Appends the node whose record stands at this place, and remembers where its children stand.

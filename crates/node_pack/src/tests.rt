@@ -316,6 +316,43 @@ fn gives_a_pack_after_refused_memory(rt: HostRuntime) -> Result<(), Fail> {
     Ok(())
 }
 
+/// The node that a source over the pack gives for a digest.
+fn read(
+    alloc: Global,
+    source: &mut PackSource<&[u8]>,
+    key: &Digest,
+) -> Result<Vec<u8>, SourceFault> {
+    let mut node = Vec::new(alloc);
+    source.read_node(key, 1000, &mut node)?;
+    Ok(node)
+}
+
+/// What was learned is forgotten, all but the root's place, and is learned again from the root down. Where memory is refused
+/// nothing is forgotten. Run with each allocation refused in turn.
+#[test]
+fn forgets_what_it_learned_within_memory(rt: HostRuntime) -> Result<(), Fail> {
+    let mut source = PackSource::open(rt.alloc(), PACK)?;
+    assert_eq!(rt; source.places_len(), 1);
+    for place in &NODES {
+        assert!(rt; read(rt.alloc(), &mut source, &place.0)?.as_slice() == place.2);
+    }
+    assert_eq!(rt; source.places_len(), NODES.len());
+    if source.forget(rt.alloc()).is_err() {
+        assert_eq!(rt; source.places_len(), NODES.len());
+        source.forget(rt.alloc())?;
+    }
+    assert_eq!(rt; source.places_len(), 1);
+    assert!(rt; source.root() == ROOT);
+    for place in &NODES[1..] {
+        assert!(rt; read(rt.alloc(), &mut source, &place.0).err() == Some(SourceFault::Absent));
+    }
+    for place in &NODES {
+        assert!(rt; read(rt.alloc(), &mut source, &place.0)?.as_slice() == place.2);
+    }
+    assert_eq!(rt; source.places_len(), NODES.len());
+    Ok(())
+}
+
 /// A file is read at any offset, and not beyond its end. The file is this program.
 #[test]
 fn reads_a_file(rt: HostRuntime) -> Result<(), Fail> {

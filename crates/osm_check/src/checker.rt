@@ -51,9 +51,9 @@ pub fn check(
     answer: &[u8],
     proof: &[u8],
 ) -> Result<Verdict, AllocError>
-    // The headline: under the root of any publication, a yes says that the answer is the query's meaning over its
-    // set, and the proof the one proof of it, unless a node of the publication and a node that stands in the proof
-    // are two with one digest.
+    // The headline: under the root of any publication, a yes says that the answer is the query's meaning over its set,
+    // and the proof the one proof of it, unless a node of the publication and a different one in the proof have the
+    // same digest.
     ensures headline { (p : Publication) (report : Report) → IsPublication p
         → root.now.0 ≡ root_of p → result ≡ Ok (Verdict.Yes report)
         → IsProved p query.now answer.now proof.now ⊎ Clash (IsNodeIn p) (StandsIn proof.now) }
@@ -85,9 +85,9 @@ pub fn check_within(
     proof: &[u8],
     most: Option<u64>,
 ) -> Result<Verdict, CheckFault>
-    // The headline: under the root of any publication, a yes says that the answer is the query's meaning over its
-    // set, and the proof the one proof of it, unless a node of the publication and a node that stands in the proof
-    // are two with one digest.
+    // The headline: under the root of any publication, a yes says that the answer is the query's meaning over its set,
+    // and the proof the one proof of it, unless a node of the publication and a different one in the proof have the
+    // same digest.
     ensures headline { (p : Publication) (report : Report) → IsPublication p
         → root.now.0 ≡ root_of p → result ≡ Ok (Verdict.Yes report)
         → IsProved p query.now answer.now proof.now ⊎ Clash (IsNodeIn p) (StandsIn proof.now) }

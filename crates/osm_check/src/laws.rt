@@ -7,7 +7,7 @@ ghost use Rattle.osm_check.specs.Verdicts.{AreAlike, IsVerdict, StandsIn, TellsO
 ghost use Rattle.osm_check.specs.declared.verdict.Verdict.{Verdict};
 
 /// A law: what a verdict says where the root is that of a publication, whichever it is; unless a node of the
-/// publication and one that stands in the proof are two with one digest.
+/// publication and a different one in the proof have the same digest.
 pub fn under_root()
     ensures { (query answer proof : List ℕ) (p : Publication) (verdict : Verdict) → IsPublication p
         → IsVerdict query (root_of p) answer proof verdict

@@ -50,9 +50,9 @@ pub fn tell(
     root: &Digest,
     proof: &[u8],
 ) -> Result<Told, AllocError>
-    // The headline: under the root of any publication, a text that is told is the query's meaning over its set in
-    // this form, and the proof the one proof of the query, unless a node of the publication and a node that stands in
-    // the proof are two with one digest.
+    // The headline: under the root of any publication, a text that is told is the query's meaning over its set in this
+    // form, and the proof the one proof of the query, unless a node of the publication and a different one in the proof
+    // have the same digest.
     ensures headline { (p : Publication) (text : Vec ℕ Global) (report : Report) → IsPublication p
         → root.now.0 ≡ root_of p → result ≡ Ok (Told.Answer text report)
         → IsProvedIn p query.now form text.items proof.now
@@ -85,9 +85,9 @@ pub fn tell_within(
     proof: &[u8],
     most: Option<u64>,
 ) -> Result<Told, CheckFault>
-    // The headline: under the root of any publication, a text that is told is the query's meaning over its set in
-    // this form, and the proof the one proof of the query, unless a node of the publication and a node that stands in
-    // the proof are two with one digest.
+    // The headline: under the root of any publication, a text that is told is the query's meaning over its set in this
+    // form, and the proof the one proof of the query, unless a node of the publication and a different one in the proof
+    // have the same digest.
     ensures headline { (p : Publication) (text : Vec ℕ Global) (report : Report) → IsPublication p
         → root.now.0 ≡ root_of p → result ≡ Ok (Told.Answer text report)
         → IsProvedIn p query.now form text.items proof.now

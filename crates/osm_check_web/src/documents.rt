@@ -45,7 +45,7 @@ pub extern "C" fn osm_check_tell(
 ) -> u32
     // The headline: under the root of any publication, a yes says that what was handed over is the document of the
     // query's meaning over its set in this form, and the proof the one proof of the query, unless a node of the
-    // publication and a node that stands in the proof are two with one digest.
+    // publication and a different one in the proof have the same digest.
     ensures headline { (p : Publication) (asked : Form) → IsPublication p → root.now ≡ root_of p
         → form_number asked ≡ form → result ≡ YES
         → IsProvedDocument p query.now asked proof.now (take size.new room.new)

@@ -28,9 +28,9 @@ pub extern "C" fn osm_check_verdict(
     proof: &[u8],
     told: &mut Told,
 ) -> u32
-    // The headline: under the root of any publication, a yes says that the answer is the query's meaning over its
-    // set, and the proof the one proof of it, unless a node of the publication and a node that stands in the proof
-    // are two with one digest.
+    // The headline: under the root of any publication, a yes says that the answer is the query's meaning over its set,
+    // and the proof the one proof of it, unless a node of the publication and a different one in the proof have the
+    // same digest.
     ensures headline { (p : Publication) → IsPublication p → root.now ≡ root_of p → result ≡ YES
         → IsProved p query.now answer.now proof.now ⊎ Clash (IsNodeIn p) (StandsIn proof.now) }
     // An honest mirror is always accepted, unless memory runs out.

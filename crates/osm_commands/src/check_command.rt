@@ -52,9 +52,9 @@ pub fn check<Q: Read, A: Read, P: Read, W: FlushingWriter>(
     most: Option<u64>,
     output: &mut W,
 ) -> Result<Verdict, CommandFault>
-    // The headline: under the root of any publication, a yes says that the answer is the query's meaning over its
-    // set, and the proof the one proof of it, unless a node of the publication and a node that stands in the proof
-    // are two with one digest.
+    // The headline: under the root of any publication, a yes says that the answer is the query's meaning over its set,
+    // and the proof the one proof of it, unless a node of the publication and a different one in the proof have the
+    // same digest.
     ensures headline { IfThree (Q.remaining query.old) (A.remaining answer.old)
         (P.remaining proof.old)
         (λ query_bytes answer_bytes proof_bytes. (p : Publication) (report : Report)
@@ -93,9 +93,9 @@ pub fn check<Q: Read, A: Read, P: Read, W: FlushingWriter>(
     ensures over { IfBoth (Q.remaining query.old) (P.remaining proof.old)
         (λ query_bytes proof_bytes. result ≡ Err CommandFault.Work
         → IsReadable query_bytes × IsRisingProof proof_bytes) }
-    // Under the root of a publication a yes is said only where the query's work is within the budget, and reports it; and
-    // there is no verdict for the budget only where it is too much, unless a node of the publication and a node that stands
-    // in the proof are two with one digest.
+    // Under the root of a publication a yes is said only where the query's work is within the budget, and reports it;
+    // and there is no verdict for the budget only where it is too much, unless a node of the publication and a
+    // different one in the proof have the same digest.
     ensures budget { IfBoth (Q.remaining query.old) (P.remaining proof.old)
         (λ query_bytes proof_bytes. (p : Publication) → IsPublication p → root.now.0 ≡ root_of p
         → ¬ Clash (IsNodeIn p) (StandsIn proof_bytes)

@@ -23,8 +23,8 @@ use Rattle.mirror_answer.specs.declared.mirror_fault.MirrorFault.{MirrorFault}
 use Rattle.mirror_answer.specs.declared.mirror_fault.MirrorFault.TheVariants.{OtherRoot, Proof, Reply, Silent, Unreached, Work}
 use Rattle.mirror_answer.specs.declared.shown.Shown.{Shown}
 use Rattle.mirror_answer.specs.declared.shown.Shown.TheVariants as shows
-use Rattle.osm_fetch.specs.Fetching.{Calls, Explains, Fetching, HasCalled, IsExcused, IsMirrorFault, IsOutside, fetch_of}
-use Rattle.osm_fetch.specs.internal.Fetched.{fault_of_cause, fault_of_fetch, fault_of_query, result_of}
+use Rattle.osm_fetch.specs.Fetching.{Calls, Explains, Fetching, IsExcused, IsMirrorFault, IsOutside, fetch_of}
+use Rattle.osm_fetch.specs.internal.Fetched.{HasCalled, fault_of_cause, fault_of_fetch, fault_of_query, result_of}
 use Rattle.osm_fetch.specs.declared.not_fetched.NotFetched.{NotFetched}
 use Rattle.osm_fetch.specs.declared.not_fetched.NotFetched.TheVariants.{Device, Memory, Mirror}
 

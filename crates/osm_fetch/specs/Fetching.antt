@@ -74,10 +74,6 @@ abbrev pub Calls : Fetching → List Call → Result (Vec ℕ Global) NotFetched
 Calls f calls (Ok text) = HasAsked (fetch_of f) calls × HasShown f (bytes_received calls) text.items
 Calls f calls (Err fault) = Explains f calls fault
 
-abbrev pub HasCalled : Fetching → (before after : Option (List Call)) → Result (Vec ℕ Global) NotFetched → Type 0
-HasCalled f None after result = ⊤
-HasCalled f (Some before) after result = (calls : List Call) × (after ≡ Some (calls ++ before)) × Calls f calls result
-
 -- ---- the command
 
 -- the same, and where it is written

@@ -8,8 +8,8 @@ ghost use Rattle.mirror_reply.specs.Calls.{Call, bytes_received};
 ghost use Rattle.mirror_reply.specs.Replies.{HasReply};
 ghost use Rattle.ql_syntax.specs.Queries.{HasFault};
 ghost use Rattle.ql_syntax.specs.declared.fault.QlFault.{QlFault as QlFaultWord};
-ghost use Rattle.osm_fetch.specs.Fetching.{HasCalled, HasFetched, IsExcused};
-ghost use Rattle.osm_fetch.specs.internal.Fetched.{fault_of_fetch, fault_of_query, result_of};
+ghost use Rattle.osm_fetch.specs.Fetching.{HasFetched, IsExcused};
+ghost use Rattle.osm_fetch.specs.internal.Fetched.{HasCalled, fault_of_fetch, fault_of_query, result_of};
 
 use crate::not_fetched::NotFetched;
 use mirror_answer::{MirrorFault, Shown, show};

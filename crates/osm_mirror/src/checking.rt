@@ -1,6 +1,6 @@
 //! The command `check`.
 
-ghost use Rattle.osm_mirror.specs.Jobs.{IsCheck};
+ghost use Rattle.osm_mirror.specs.internal.Jobs.{IsCheck};
 
 use command_line::Job;
 use osm_commands::{Status, check};

@@ -1,6 +1,6 @@
 //! The command `fetch`.
 
-ghost use Rattle.osm_mirror.specs.Jobs.{IsFetch};
+ghost use Rattle.osm_mirror.specs.internal.Jobs.{IsFetch};
 
 use command_line::Job;
 use mirror_answer::MirrorFault;

@@ -1,6 +1,6 @@
 //! The command `pack`.
 
-ghost use Rattle.osm_mirror.specs.Jobs.{IsPack};
+ghost use Rattle.osm_mirror.specs.internal.Jobs.{IsPack};
 
 use command_line::Job;
 use osm_commands::{CommandFault, Status};

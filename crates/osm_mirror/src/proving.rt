@@ -1,6 +1,6 @@
 //! The command `prove`.
 
-ghost use Rattle.osm_mirror.specs.Jobs.{IsProve};
+ghost use Rattle.osm_mirror.specs.internal.Jobs.{IsProve};
 
 use command_line::Job;
 use osm_commands::{CommandFault, Status, prove};

@@ -1,6 +1,6 @@
 //! The command `query`.
 
-ghost use Rattle.osm_mirror.specs.Jobs.{IsQuery};
+ghost use Rattle.osm_mirror.specs.internal.Jobs.{IsQuery};
 
 use command_line::Job;
 use http_ranges::{Address, HttpFile, NotGiven, Target, read_target};

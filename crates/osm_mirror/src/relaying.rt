@@ -1,6 +1,6 @@
 //! The command `relay`.
 
-ghost use Rattle.osm_mirror.specs.Jobs.{IsRelay};
+ghost use Rattle.osm_mirror.specs.internal.Jobs.{IsRelay};
 
 use crate::root_file::RootFile;
 use command_line::Job;

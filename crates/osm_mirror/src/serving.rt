@@ -1,8 +1,8 @@
 //! The command `serve`.
 
 ghost use Rattle.std.specs.Prelude.{◌≡◌};
-ghost use Rattle.osm_mirror.specs.Faults.{fault_of_traffic};
-ghost use Rattle.osm_mirror.specs.Jobs.{IsServe};
+ghost use Rattle.osm_mirror.specs.internal.Faults.{fault_of_traffic};
+ghost use Rattle.osm_mirror.specs.internal.Jobs.{IsServe};
 
 use crate::change_folder::ChangeFolder;
 use crate::pack_serving::serve_if_pack;

@@ -8,9 +8,9 @@ use Rattle.ql_eval.specs.declared.fault.EvalFault.{EvalFault}
 use Rattle.ql_eval.specs.declared.fault.EvalFault.TheVariants as faults
 use Rattle.osm_prove.specs.Budgets.{IsTooMuch}
 use Rattle.outside_proof.specs.Budgets.{KeepsBudget}
-use Rattle.outside_proof.specs.Faults.{IsFromOutside, IsNamed, IsOfEvaluation, fault_told, source_told, told_by_cause}
+use Rattle.outside_proof.specs.Faults.{IsFromOutside, IsNamed, fault_told, source_told, told_by_cause}
 use Rattle.outside_proof.specs.declared.fault.OutsideFault.{OutsideFault}
-use Rattle.outside_proof.specs.declared.fault.OutsideFault.TheVariants.{Evaluation, Memory, Source, Work}
+use Rattle.outside_proof.specs.declared.fault.OutsideFault.TheVariants.{Evaluation, Memory, Source, TooLong, Work}
 
 absent : reasons.Absent ≢ reasons.Memory
 absent is = cc
@@ -55,9 +55,9 @@ module _ (P : OutsideFault → Type 0) (memory : P Memory) (source : (reason : R
 pub named : (fault : EvalFault) (reason : Option Refused) → IsNamed (fault_told fault reason)
 named fault reason = of_told IsNamed tt (λ r apart. apart) fault reason (λ work. tt) (λ nodes. nodes)
 
--- it is neither of the query nor of the proof
-pub of_evaluation : (fault : EvalFault) (reason : Option Refused) → IsOfEvaluation (fault_told fault reason)
-of_evaluation fault reason = of_told IsOfEvaluation tt (λ r apart. tt) fault reason (λ work. tt) (λ nodes. tt)
+-- nothing is too long for a proof
+pub never_too_long : (fault : EvalFault) (reason : Option Refused) → fault_told fault reason ≢ TooLong
+never_too_long fault reason = of_told (λ (told : OutsideFault). told ≢ TooLong) (λ is. cc) (λ r apart is. cc) fault reason (λ work is. cc) (λ nodes is. cc)
 
 -- an evaluation that was refused for memory or for a node that isn't held is refused from outside
 pub from_outside : (needed held : List ℕ → Type 0) (fault : EvalFault) (reason : Option Refused) → RefusedFor needed held (cause_of_evaluation fault) → IsFromOutside (fault_told fault reason)

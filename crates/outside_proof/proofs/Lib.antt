@@ -5,4 +5,3 @@ mod NodeCounts
 mod NodeLengths
 mod PartLengths
 mod Proving
-mod Refusals

@@ -1,4 +1,4 @@
--- Why there is no answer: what a query that doesn't read and a refused evaluation make of it.
+-- Why there is no answer: what a refused evaluation makes of it.
 -- Source: this project.
 use Rattle.std.specs.Prelude.{◌≡◌, ◌≢◌, ◌⊎◌, Option, Some, None, ⊤}
 use Rattle.tree_node.specs.Outcomes.{Cause, NoMemory, NodeMissing, OtherCause}
@@ -7,23 +7,8 @@ use Rattle.outside_shelf.specs.declared.refused.Refused.TheVariants as reasons
 use Rattle.ql_eval.specs.Faults.{cause_of_evaluation}
 use Rattle.ql_eval.specs.declared.fault.EvalFault.{EvalFault}
 use Rattle.ql_eval.specs.declared.fault.EvalFault.TheVariants as faults
-use Rattle.ql_syntax.specs.declared.cause.QlCause.{QlCause}
-use Rattle.ql_syntax.specs.declared.cause.QlCause.TheVariants as causes
-use Rattle.ql_syntax.specs.declared.fault.QlFault.{QlFault}
 use Rattle.outside_proof.specs.declared.fault.OutsideFault.{OutsideFault}
-use Rattle.outside_proof.specs.declared.fault.OutsideFault.TheVariants.{Evaluation, Memory, Query, Source, TooLong, Work}
-
--- ---- queries that don't read
-
--- out of memory stays out of memory
-abbrev pub refusal_of_cause : QlFault → QlCause → OutsideFault
-refusal_of_cause fault causes.Memory = Memory
-refusal_of_cause fault _ = Query fault
-
-abbrev pub refusal_of : QlFault → OutsideFault
-refusal_of fault = refusal_of_cause fault fault.cause
-
--- ---- refused evaluations
+use Rattle.outside_proof.specs.declared.fault.OutsideFault.TheVariants.{Evaluation, Memory, Source, TooLong, Work}
 
 -- a node that wasn't given is told by the shelf's reason; where the shelf tells none, it holds no such node
 abbrev pub source_told : Option Refused → OutsideFault
@@ -51,31 +36,12 @@ fault_told faults.Memory reason = Memory
 
 -- ---- what a fault says
 
--- it isn't of the query
-abbrev pub IsNoQuery : OutsideFault → Type 0
-IsNoQuery (Query fault) = ⊥
-IsNoQuery Work = ⊤
-IsNoQuery Memory = ⊤
-IsNoQuery (Source reason) = ⊤
-IsNoQuery (Evaluation fault) = ⊤
-IsNoQuery TooLong = ⊤
-
--- and not of a proof either
-abbrev pub IsOfEvaluation : OutsideFault → Type 0
-IsOfEvaluation (Query fault) = ⊥
-IsOfEvaluation Work = ⊤
-IsOfEvaluation Memory = ⊤
-IsOfEvaluation (Source reason) = ⊤
-IsOfEvaluation (Evaluation fault) = ⊤
-IsOfEvaluation TooLong = ⊥
-
 -- nothing but memory, the budget or the source is the reason
 abbrev pub IsFromOutside : OutsideFault → Type 0
 IsFromOutside fault = (fault ≡ Memory) ⊎ ((fault ≡ Work) ⊎ ((reason : Refused) × (fault ≡ Source reason) × (reason ≢ reasons.Memory)))
 
 -- a source's reason isn't memory, and a fault of the nodes is neither memory nor a node that wasn't given
 abbrev pub IsNamed : OutsideFault → Type 0
-IsNamed (Query fault) = ⊤
 IsNamed Work = ⊤
 IsNamed Memory = ⊤
 IsNamed (Source reason) = reason ≢ reasons.Memory

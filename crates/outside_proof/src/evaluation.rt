@@ -1,4 +1,4 @@
-//! Queries, evaluated over nodes that a source brings.
+//! Queries, evaluated over nodes that a shelf gives.
 
 ghost use Rattle.std.specs.Prelude.{◌≡◌, ◌≢◌, Err, IfErr, IfOk, None, OnOk, ⊤};
 ghost use Rattle.tree_node.specs.Digests.{digest as digest_word};
@@ -61,7 +61,7 @@ pub(crate) fn evaluate_over<'a, S: Shelf<'a>>(
     }
 }
 
-/// Why there is no answer: too much work, no memory, why the source gave no node, or else what the evaluation refused.
+/// Why there is no answer: too much work, no memory, why the shelf gave no node, or else what the evaluation refused.
 pub(crate) fn refusal(fault: EvalFault, reason: Option<Refused>) -> OutsideFault
     ensures { result ≡ fault_told fault reason }
 {
@@ -76,7 +76,7 @@ pub(crate) fn refusal(fault: EvalFault, reason: Option<Refused>) -> OutsideFault
     }
 }
 
-/// Why the source gave no node. The shelf has told a reason where it gave none to the evaluation; without one the node
+/// Why the shelf gave no node. It has told a reason where it gave none to the evaluation; without one the node
 /// counts as absent.
 fn source_refusal(reason: Option<Refused>) -> OutsideFault
     ensures { result ≡ source_told reason }

@@ -1,32 +1,27 @@
 //! Why there is no answer.
 
 ghost use Rattle.std.specs.Prelude.{◌≡◌};
-ghost use Rattle.outside_proof.specs.Faults.{refusal_of};
 ghost use Rattle.outside_proof.specs.declared.fault.OutsideFault.TheVariants.{Memory};
 
 use outside_shelf::Refused;
 use ql_eval::EvalFault;
-use ql_syntax::{QlCause, QlFault};
 use std::alloc::AllocError;
 use thiserror::Error;
 
 /// Why there is no answer, with its proof or without.
 #[derive(Clone, Copy, Debug, PartialEq, Eq, Error)]
 pub enum OutsideFault {
-    /// The query doesn't read: `Q11 byte 7`.
-    #[error("{0}")]
-    Query(QlFault),
     /// More is to be done for the query than the budget has.
     #[error("too much work")]
     Work,
-    /// An allocation was refused, to the source or for the answer.
+    /// An allocation was refused, to the shelf or for the answer.
     #[error("no memory")]
     Memory,
-    /// The source gave no node where one was needed, for this reason, which is never memory.
+    /// The shelf gave no node where one was needed, for this reason, which is never memory.
     #[error("{0}")]
     Source(Refused),
     /// The nodes that were given aren't those of a publication: `E1` to `E4`, for another reason than memory or a node that
-    /// the source didn't give.
+    /// wasn't given.
     #[error("{0}")]
     Evaluation(EvalFault),
     /// The nodes don't fit a proof: there are 2^32 or more, or one has 2^32 bytes or more. No publication has such nodes.
@@ -39,17 +34,5 @@ impl From<AllocError> for OutsideFault {
 
     fn from(_: AllocError) -> OutsideFault {
         OutsideFault::Memory
-    }
-}
-
-impl From<QlFault> for OutsideFault {
-    ghost from_gives = { λ refused fault. fault ≡ refusal_of refused };
-
-    /// Out of memory stays out of memory; else the query is refused.
-    fn from(refused: QlFault) -> OutsideFault {
-        match refused.cause {
-            QlCause::Memory => OutsideFault::Memory,
-            _ => OutsideFault::Query(refused),
-        }
     }
 }

@@ -1,16 +1,15 @@
-//! Queries over four objects, proved and answered from sources of their nodes.
+//! Queries over four objects, proved and answered over shelves of their nodes.
 
 use crate::sources::{Spoiling, Stored};
 use bumpalo::Bump;
 use node_pack::{PackSource, write_pack};
 use opl_codec::read_set;
 use osm_index::{Edition, Snapshot};
-use osm_prove::{Answered, Proved, prove, read_proof};
-use outside_answer::Limits;
-use outside_proof::{OutsideFault, answer_query_from, prove_from};
-use outside_shelf::{NodeSource, Refused};
+use osm_prove::{prove, read_proof};
+use outside_proof::{AnswerAndProof, OutsideFault, answer_over, prove_over};
+use outside_shelf::{NodeSource, OutsideShelf, Refused};
 use ql_eval::{EvalFault, ManifestFault};
-use ql_syntax::{QlCause, QlFault};
+use ql_syntax::parse;
 use std::alloc::Global;
 use std::process::Abort;
 use std::test::Fail;
@@ -32,6 +31,13 @@ const QUERIES: [&str; 6] = [
     "(node(1);way(10););out ids;",
 ];
 
+/// How many bytes a source may give, and how much work may be done.
+#[derive(Clone, Copy, Debug)]
+struct Limits {
+    bytes: Option<u64>,
+    work: Option<u64>,
+}
+
 const NO_LIMITS: Limits = Limits {
     bytes: None,
     work: None,
@@ -43,28 +49,36 @@ fn snapshot(alloc: Global, edition: Edition) -> Result<Snapshot, Fail> {
     Ok(Snapshot::build(alloc, set, edition)?)
 }
 
-/// A query, proved from a source.
+/// A query that reads, proved from a source.
 fn proved<N: NodeSource + Drop>(
     alloc: Global,
     source: N,
     root: &Digest,
     text: &str,
     limits: Limits,
-) -> Result<Proved, OutsideFault> {
+) -> Result<AnswerAndProof, OutsideFault> {
+    let Ok(query) = parse(alloc, text.as_bytes()) else {
+        return Err(OutsideFault::Memory);
+    };
     let arena = Bump::new(alloc);
-    prove_from(alloc, &arena, source, text.as_bytes(), root, limits)
+    let mut shelf = OutsideShelf::new(alloc, &arena, source, limits.bytes);
+    prove_over(alloc, &mut shelf, &query, root, limits.work)
 }
 
-/// A query, answered from a source.
+/// A query that reads, answered from a source.
 fn answered<N: NodeSource + Drop>(
     alloc: Global,
     source: N,
     root: &Digest,
     text: &str,
     limits: Limits,
-) -> Result<Answered, OutsideFault> {
+) -> Result<Vec<u8>, OutsideFault> {
+    let Ok(query) = parse(alloc, text.as_bytes()) else {
+        return Err(OutsideFault::Memory);
+    };
     let arena = Bump::new(alloc);
-    answer_query_from(alloc, &arena, source, text.as_bytes(), root, limits)
+    let mut shelf = OutsideShelf::new(alloc, &arena, source, limits.bytes);
+    answer_over(alloc, &mut shelf, &query, root, limits.work)
 }
 
 /// From a pack of the snapshot come the proof and the answer that a mirror gives of the snapshot.
@@ -81,7 +95,6 @@ fn proves_as_a_mirror_does(
     write_pack(alloc, &mut snapshot.stock().shelf(alloc), root, &mut pack)?;
     let source = PackSource::open(alloc, pack.as_slice())?;
     let given = proved(alloc, source, root, text, NO_LIMITS)?;
-    assert!(rt; given.root == *root, "{text}");
     assert_eq!(rt;
         given.answer.as_slice(),
         expected.answer.as_slice(),
@@ -90,12 +103,7 @@ fn proves_as_a_mirror_does(
     assert_eq!(rt; given.proof.as_slice(), expected.proof.as_slice(), "{text}");
     let source = PackSource::open(alloc, pack.as_slice())?;
     let given = answered(alloc, source, root, text, NO_LIMITS)?;
-    assert!(rt; given.root == *root, "{text}");
-    assert_eq!(rt;
-        given.answer.as_slice(),
-        expected.answer.as_slice(),
-        "{text}"
-    );
+    assert_eq!(rt; given.as_slice(), expected.answer.as_slice(), "{text}");
     Ok(())
 }
 
@@ -208,24 +216,37 @@ impl NodeSource for Same {
     fn announce(&mut self, _top: &Digest, _lo: &[u8], _hi: &[u8]) {}
 }
 
-/// A query that doesn't read is told before the source is asked, and bytes that are no manifest are no publication's.
+/// Bytes that are no manifest are no publication's.
 #[test]
 fn tells_what_is_wrong(rt: HostRuntime) -> Result<(), Fail> {
     let alloc = rt.alloc();
     let root = digest_of(b"no manifest");
-    let query = OutsideFault::Query(QlFault {
-        cause: QlCause::UnexpectedWord,
-        byte: 0,
-    });
     let malformed = OutsideFault::Evaluation(EvalFault::Manifest(ManifestFault::Malformed));
-    for (text, expected) in [("nothing", query), (QUERIES[0], malformed)] {
-        let source = Same(b"no manifest");
-        let told = proved(alloc, source, &root, text, NO_LIMITS).err();
-        assert!(rt; told == Some(expected), "{told:?}");
-        let source = Same(b"no manifest");
-        let told = answered(alloc, source, &root, text, NO_LIMITS).err();
-        assert!(rt; told == Some(expected), "{told:?}");
-    }
+    let source = Same(b"no manifest");
+    let told = proved(alloc, source, &root, QUERIES[0], NO_LIMITS).err();
+    assert!(rt; told == Some(malformed), "{told:?}");
+    let source = Same(b"no manifest");
+    let told = answered(alloc, source, &root, QUERIES[0], NO_LIMITS).err();
+    assert!(rt; told == Some(malformed), "{told:?}");
+    Ok(())
+}
+
+/// A shelf that was used before gives the same answer again, and its source isn't asked any more.
+#[test]
+fn answers_over_a_used_shelf(rt: HostRuntime) -> Result<(), Fail> {
+    let alloc = rt.alloc();
+    let snapshot = snapshot(alloc, Edition::Two { sequence: 7 })?;
+    let root = snapshot.root();
+    let query = parse(alloc, QUERIES[2].as_bytes())?;
+    let arena = Bump::new(alloc);
+    let source = Stored::new(alloc, &snapshot, None);
+    let mut shelf = OutsideShelf::new(alloc, &arena, source, Some(100_000));
+    let first = answer_over(alloc, &mut shelf, &query, root, None)?;
+    let left = shelf.left();
+    let again = answer_over(alloc, &mut shelf, &query, root, None)?;
+    assert_eq!(rt; first.as_slice(), b"n1\nn2\n".as_slice());
+    assert_eq!(rt; again.as_slice(), first.as_slice());
+    assert!(rt; left < Some(100_000) && shelf.left() == left);
     Ok(())
 }
 
@@ -271,6 +292,6 @@ fn proves_within_memory(rt: HostRuntime) -> Result<(), Fail> {
             NO_LIMITS,
         );
     }
-    assert_eq!(rt; second?.answer.as_slice(), b"n1\nw10\n".as_slice());
+    assert_eq!(rt; second?.as_slice(), b"n1\nw10\n".as_slice());
     Ok(())
 }

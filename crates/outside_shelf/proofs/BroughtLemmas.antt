@@ -1,5 +1,5 @@
 -- What a shelf has brought after one node more.
-use Rattle.std.proofs.Common.{◌≡◌, ◌≤◌, ◌+◌, Bool, true, false, not, List, ℕ, Option, Some, None, Result, Ok, Err, refl, ap, subst, ◌∙◌, sym, arith, length, sum_by}
+use Rattle.std.proofs.Common.{◌≡◌, ◌≤◌, ◌+◌, [], Bool, min, true, false, not, List, ℕ, Option, Some, None, Result, Ok, Err, refl, ap, subst, ◌∙◌, sym, arith, length, sum_by}
 use Rattle.std.specs.Prelude.{IfOk, OnErr}
 use Rattle.std.specs.HashMap.{HashMap, get, IsUnchanged, PutsEntry}
 use Rattle.std.specs.Option.{ForSome, option_map}
@@ -13,7 +13,7 @@ use Rattle.tree_node.specs.Parts.{node_of}
 use Rattle.tree_node.specs.declared.digest.Digest.{Digest}
 use Rattle.tree_node.specs.declared.part.Part.{Part}
 use Rattle.tree_node.proofs.shared.MapLemmas.{not_missing}
-use Rattle.outside_shelf.specs.Brought.{HasRoomFor, brought_at, brought_len}
+use Rattle.outside_shelf.specs.Brought.{HasRoomFor, brought_at, brought_len, entry_len}
 use Rattle.outside_shelf.specs.declared.bound.Bound.{Bound}
 
 -- where no held node has a digest, none stands under it
@@ -29,7 +29,7 @@ nothing_there (Some b) is = absurd (Prim.cc)
 -- a node that is put under a new key adds its bytes
 len_put : {S : Type 0} (old new : HashMap Digest Part S) (key : Digest) (node : Part) (was : Option Part) → was ≡ None → PutsEntry digest_eq old new key node was
     → brought_len new ≡ length (node_of node) + brought_len old
-len_put old new key node None is put = sum_by_pushed (λ (entry : Digest × Part). length (node_of entry.1)) (key, node) old.entries new.entries put
+len_put old new key node None is put = sum_by_pushed entry_len (key, node) old.entries new.entries put
 len_put old new key node (Some b) is put = absurd (Prim.cc)
 
 -- what fits with more fits without it
@@ -45,9 +45,16 @@ room_kept old new key node bound (Ok was) before put same none room b is =
     let total = len_put old new key node was (before ∙ nothing_there (get digest_eq old key) none) put in
     subst (λ (n : ℕ). n + b.left ≤ b.most) (sym total) (room b is)
 room_kept old new key node bound (Err e) before put same none room b is =
-    let total : brought_len new ≡ brought_len old = ap (λ (es : List (Digest × Part)). sum_by (λ (entry : Digest × Part). length (node_of entry.1)) es) same in
+    let total : brought_len new ≡ brought_len old = ap (λ (es : List (Digest × Part)). sum_by entry_len es) same in
     let fits = room b is in
     subst (λ (n : ℕ). n + b.left ≤ b.most) (sym total) (less (length (node_of node)) (brought_len old) b.left b.most fits)
+
+-- a count to which nothing is to come is the whole one
+pub all_counted : (total all : ℕ) (left : List (Digest × Part)) → left ≡ [] → total ≤ 0xffff_ffff_ffff_ffff
+    → min (total + sum_by entry_len left) 0xffff_ffff_ffff_ffff ≡ min all 0xffff_ffff_ffff_ffff → total ≡ min all 0xffff_ffff_ffff_ffff
+all_counted total all left none fits counted =
+    let whole : min (total + 0) 0xffff_ffff_ffff_ffff ≡ min all 0xffff_ffff_ffff_ffff = subst (λ (es : List (Digest × Part)). min (total + sum_by entry_len es) 0xffff_ffff_ffff_ffff ≡ min all 0xffff_ffff_ffff_ffff) none counted in
+    omega (arith, whole)
 
 -- digests that aren't found to differ are the same
 pub same_digest : (told key own : List ℕ) (differ : Bool) → differ ≡ not (bytes_eq told key) → differ ≡ false → told ≡ own → own ≡ key

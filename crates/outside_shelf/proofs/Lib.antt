@@ -1,2 +1,4 @@
 mod BroughtLemmas
+mod CopyLemmas
 mod PartLemmas
+mod TogetherLemmas

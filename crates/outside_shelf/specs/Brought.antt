@@ -13,9 +13,13 @@ use Rattle.outside_shelf.specs.declared.bound.Bound.{Bound}
 abbrev pub brought_at : {S : Type 0} → HashMap Digest Part S → Digest → Option (List ℕ)
 brought_at brought key = option_map node_of (get digest_eq brought key)
 
+-- how many bytes the node of an entry has
+abbrev pub entry_len : Digest × Part → ℕ
+entry_len entry = length (node_of entry.1)
+
 -- how many bytes all brought nodes have
 abbrev pub brought_len : {S : Type 0} → HashMap Digest Part S → ℕ
-brought_len brought = sum_by (λ entry. length (node_of entry.1)) brought.entries
+brought_len brought = sum_by entry_len brought.entries
 
 -- where there is a bound, a node that was read for it can still be brought
 abbrev pub HasRoomFor : {S : Type 0} → Option Bound → HashMap Digest Part S → List ℕ → Type 0

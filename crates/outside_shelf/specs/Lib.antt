@@ -1,3 +1,6 @@
 pub mod Brought
+pub mod Copies
 pub mod Reasons
 pub mod Shelves
+pub mod StockedShelves
+pub mod internal

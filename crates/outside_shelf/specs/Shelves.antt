@@ -32,9 +32,13 @@ module _ {N : Type 0} where
   abbrev pub reason_of : OutsideShelf N → Option Refused
   reason_of shelf = shelf.refused
 
+  -- how many bytes all brought nodes have together
+  abbrev pub total_brought : OutsideShelf N → ℕ
+  total_brought shelf = brought_len shelf.brought
+
   -- all brought nodes together have no more bytes than it may read
   abbrev pub KeepsBound : OutsideShelf N → Type 0
-  KeepsBound shelf = ForSome (most_of shelf) (λ most. brought_len shelf.brought ≤ most)
+  KeepsBound shelf = ForSome (most_of shelf) (λ most. total_brought shelf ≤ most)
 
   -- this many bytes are taken from those that are left
   abbrev pub Spends : (old new : OutsideShelf N) → ℕ → Type 0

@@ -1,7 +1,7 @@
 //! A shelf over a source of which nothing is known.
 
 ghost use Rattle.std.specs.Option.{ForSome};
-ghost use Rattle.std.specs.Prelude.{◌≡◌, ◌≤◌, ◌<◌, ◌+◌, ◌⊎◌, ◌≢◌, ℕ, List, Err, IfErr, IfOk, IfSome, None, OnErr, OnOk, Some, false, length, true};
+ghost use Rattle.std.specs.Prelude.{◌≡◌, ◌≤◌, ◌<◌, ◌+◌, ◌⊎◌, ◌≢◌, ℕ, List, Err, IfErr, IfOk, IfSome, None, OnErr, OnOk, Some, false, length, min, true};
 ghost use Rattle.tree_node.specs.Digests.{digest as digest_word};
 ghost use Rattle.tree_node.specs.Fetches.{GivesNode};
 ghost use Rattle.tree_node.specs.Parts.{HaveNode, HaveRisingDigests, node_of};
@@ -33,7 +33,7 @@ pub struct OutsideShelf<'a, N: NodeSource + Drop> {
 }
 
 impl<'a, N: NodeSource + Drop> OutsideShelf<'a, N> {
-    ghost use Rattle.outside_shelf.specs.Shelves.{CostsFor, HasBrought, KeepsBound, Spends, WasRefusedFor, last_read, left_of, most_of, reason_of};
+    ghost use Rattle.outside_shelf.specs.Shelves.{CostsFor, HasBrought, KeepsBound, Spends, WasRefusedFor, last_read, left_of, most_of, reason_of, total_brought};
     ghost use Rattle.outside_shelf.specs.declared.refused.Refused.TheVariants.{Memory, Other};
 
     /// A shelf over this source, which has brought nothing yet. Where it is given a bound it reads at most this many bytes, and
@@ -79,6 +79,18 @@ impl<'a, N: NodeSource + Drop> OutsideShelf<'a, N> {
         let mut parts: Vec<Part<'a>> = self.brought.values().copied().collect(alloc)?;
         parts.sort_unstable_by_key(|part| part.digest());
         Ok(parts)
+    }
+
+    /// How many bytes the nodes that were brought have together, or `usize::MAX` where they are more. It is linear in their
+    /// number.
+    pub fn brought_len(&self) -> usize
+        ensures { result ≡ min (total_brought self.now) 0xffff_ffff_ffff_ffff }
+    {
+        let mut total: usize = 0;
+        for (_, part) in &self.brought {
+            total = total.saturating_add(part.bytes().len());
+        }
+        total
     }
 
     /// The node with this digest, from the source where it wasn't brought before.

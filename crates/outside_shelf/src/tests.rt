@@ -1,5 +1,7 @@
 //! A small tree behind sources that give it, and behind sources that don't.
 
+mod stocked;
+
 use crate::{NodeSource, OutsideShelf, Refused, SourceFault};
 use bumpalo::Bump;
 use std::process::Abort;

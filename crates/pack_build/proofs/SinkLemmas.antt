@@ -14,7 +14,7 @@ use Rattle.entry_sort.specs.declared.entry_sink.SinkFault.{SinkFault}
 use Rattle.entry_sort.specs.declared.entry_sink.SinkFault.TheVariants as sinks
 use Rattle.level_files.specs.Built.{HasEntries, Takes, fault_in, fault_told, with_entry, writer_of}
 use Rattle.level_files.specs.declared.trees_builder.TreesBuilder.{TreesBuilder}
-use Rattle.pack_build.specs.Faults.{sink_fault_of}
+use Rattle.pack_build.specs.internal.Faults.{sink_fault_of}
 use Rattle.pack_build.specs.Taken.{bindings_in, taken_by}
 use Rattle.pack_build.specs.declared.taken.Taken.{Taken}
 

@@ -4,7 +4,7 @@ ghost use Rattle.std.specs.Prelude.{◌≡◌, [], None};
 ghost use Rattle.tree_build.specs.Shapes.{shape_of as shape_word};
 ghost use Rattle.tree_node.specs.declared.tree.Tree.{Tree as TreeWord};
 ghost use Rattle.level_files.specs.Built.{HasEntries, fault_told};
-ghost use Rattle.pack_build.specs.Faults.{sink_fault_of};
+ghost use Rattle.pack_build.specs.internal.Faults.{sink_fault_of};
 ghost use Rattle.pack_build.specs.Taken.{taken_by};
 
 use crate::taken::{Given, Taken};

@@ -1,4 +1,4 @@
-//! Queries, answered and proved from a pack file.
+//! Queries, answered and proved from the nodes of a pack.
 
 ghost use Rattle.std.specs.Prelude.{◌≡◌, ◌≢◌, ◌⊎◌, Err, IfOk, None};
 ghost use Rattle.osm_forms.specs.Forms.{form_text};
@@ -12,21 +12,19 @@ ghost use Rattle.osm_gate.specs.Mirrors.{KeepsBudget};
 ghost use Rattle.pack_mirror.specs.Roots.{StandsFor};
 
 use crate::faults::answer_refused;
-use crate::opening::source_for;
-use bumpalo::Bump;
+use crate::kept::KeptNodes;
+use crate::queries::read_query;
 use node_pack::ReadAt;
 use osm_gate::MirrorFault;
 use osm_prove::{Answered, Proved};
-use outside_answer::Limits;
-use outside_proof::{answer_query_from, prove_from};
 use std::alloc::Global;
 use tree_node::Digest;
 
-/// The answer to a query under a root, from what a pack file gives now. What it takes of memory goes back with the call, but
-/// for the answer.
-pub(crate) fn answer_from_file<F: ReadAt>(
+/// The answer to a query under a root, from what is kept and what a pack file gives now. The query is parsed before anything
+/// is read.
+pub(crate) fn answer_from_nodes<F: ReadAt + Drop>(
     alloc: Global,
-    file: &mut F,
+    nodes: &mut KeptNodes<F>,
     root: &Digest,
     query: &[u8],
     most: Option<u64>,
@@ -42,18 +40,20 @@ pub(crate) fn answer_from_file<F: ReadAt>(
         → KeepsBudget (IsWorkOf (form_text Opl) p query.now) most result }
     ensures limited { most ≡ None → result ≢ Err MirrorFault.Work }
 {
-    let source = source_for(alloc, file, query)?;
-    let arena = Bump::new(alloc);
-    match answer_query_from(alloc, &arena, source, query, root, limits_of(most)) {
-        Ok(answered) => Ok(answered),
+    let parsed = read_query(alloc, query)?;
+    match nodes.answer(alloc, &parsed, root, most) {
+        Ok(answer) => Ok(Answered {
+            root: *root,
+            answer,
+        }),
         Err(fault) => Err(answer_refused(fault)),
     }
 }
 
-/// The answer and its proof, as [`answer_from_file`] gives the answer alone.
-pub(crate) fn prove_from_file<F: ReadAt>(
+/// The answer and its proof, as [`answer_from_nodes`] gives the answer alone.
+pub(crate) fn prove_from_nodes<F: ReadAt + Drop>(
     alloc: Global,
-    file: &mut F,
+    nodes: &mut KeptNodes<F>,
     root: &Digest,
     query: &[u8],
     most: Option<u64>,
@@ -69,21 +69,13 @@ pub(crate) fn prove_from_file<F: ReadAt>(
         → KeepsBudget (IsWorkOf (form_text Opl) p query.now) most result }
     ensures limited { most ≡ None → result ≢ Err MirrorFault.Work }
 {
-    let source = source_for(alloc, file, query)?;
-    let arena = Bump::new(alloc);
-    match prove_from(alloc, &arena, source, query, root, limits_of(most)) {
-        Ok(proved) => Ok(proved),
+    let parsed = read_query(alloc, query)?;
+    match nodes.prove(alloc, &parsed, root, most) {
+        Ok(both) => Ok(Proved {
+            root: *root,
+            answer: both.answer,
+            proof: both.proof,
+        }),
         Err(fault) => Err(answer_refused(fault)),
-    }
-}
-
-/// The budget alone limits what is done: a query may read as many bytes as it needs.
-fn limits_of(most: Option<u64>) -> Limits
-    ensures work { result.work ≡ most }
-    ensures bytes { result.bytes ≡ None }
-{
-    Limits {
-        bytes: None,
-        work: most,
     }
 }

@@ -1,9 +1,8 @@
 //! What each fault is to who asks a mirror.
 
 ghost use Rattle.std.specs.Prelude.{◌≡◌};
-ghost use Rattle.pack_mirror.specs.Faults.{fault_of_answer, fault_of_pack, fault_of_query};
+ghost use Rattle.pack_mirror.specs.Faults.{fault_of_answer, fault_of_query};
 
-use node_pack::PackFault;
 use osm_gate::MirrorFault;
 use outside_proof::OutsideFault;
 use ql_syntax::{QlCause, QlFault};
@@ -18,27 +17,12 @@ pub(crate) fn query_refused(fault: QlFault) -> MirrorFault
     }
 }
 
-/// What a pack that isn't opened again is: a failed device, unless memory ran out.
-pub(crate) fn pack_refused(fault: PackFault) -> MirrorFault
-    ensures { result ≡ fault_of_pack fault }
-{
-    match fault {
-        PackFault::Memory => MirrorFault::Memory,
-        PackFault::NotAPack
-        | PackFault::OtherVersion
-        | PackFault::Cut
-        | PackFault::BytesAfter
-        | PackFault::Device => MirrorFault::Device,
-    }
-}
-
 /// What it is that nodes have no answer: a node that isn't given, and nodes that aren't those of a publication, are the
 /// device's fault.
 pub(crate) fn answer_refused(fault: OutsideFault) -> MirrorFault
     ensures { result ≡ fault_of_answer fault }
 {
     match fault {
-        OutsideFault::Query(fault) => MirrorFault::Query(fault),
         OutsideFault::Work => MirrorFault::Work,
         OutsideFault::Memory => MirrorFault::Memory,
         OutsideFault::Source(_) | OutsideFault::Evaluation(_) | OutsideFault::TooLong => {

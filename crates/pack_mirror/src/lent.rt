@@ -1,40 +1,33 @@
-//! A file that is lent to a source.
+//! A source that is lent to a shelf.
 
-ghost use Rattle.std.specs.Prelude.{◌≡◌};
+use node_pack::{PackSource, ReadAt};
+use outside_shelf::{NodeSource, SourceFault};
+use tree_node::Digest;
 
-use node_pack::{Place, ReadAt, ReadFault};
-
-/// A file that is lent to a source: it gives what the file gives, and stays its owner's.
+/// A source that is lent to a shelf: it gives what the source gives, and stays its owner's.
 #[derive(Drop)]
-pub(crate) struct Lent<'a, F> {
-    file: &'a mut F,
+pub(crate) struct Lent<'a, F: ReadAt + Drop> {
+    source: &'a mut PackSource<F>,
 }
 
-impl<'a, F> Lent<'a, F> {
-    /// Lends the file.
-    pub(crate) fn new(file: &'a mut F) -> Lent<'a, F>
-        ensures { result.file.now ≡ file.old }
-    {
-        Lent { file }
+impl<'a, F: ReadAt + Drop> Lent<'a, F> {
+    /// Lends the source.
+    pub(crate) fn new(source: &'a mut PackSource<F>) -> Lent<'a, F> {
+        Lent { source }
     }
 }
 
-impl<F: ReadAt> ReadAt for Lent<'_, F> {
-    ghost reads = { λ lent bytes. F.reads lent.file.now bytes };
-
-    fn size(&mut self) -> Result<u64, ReadFault> {
-        self.file.size()
+impl<F: ReadAt + Drop> NodeSource for Lent<'_, F> {
+    fn read_node(
+        &mut self,
+        key: &Digest,
+        at_most: usize,
+        into: &mut Vec<u8>,
+    ) -> Result<(), SourceFault> {
+        self.source.read_node(key, at_most, into)
     }
 
-    fn read_at(&mut self, offset: u64, len: usize, into: &mut Vec<u8>) -> Result<(), ReadFault> {
-        self.file.read_at(offset, len, into)
-    }
-
-    fn is_remote(&self) -> bool {
-        self.file.is_remote()
-    }
-
-    fn expect(&mut self, places: &[Place]) {
-        self.file.expect(places);
+    fn announce(&mut self, top: &Digest, lo: &[u8], hi: &[u8]) {
+        self.source.announce(top, lo, hi);
     }
 }

@@ -10,24 +10,33 @@ ghost use Rattle.node_pack.specs.Sources.{IsOpenFault};
 ghost use Rattle.node_pack.specs.declared.header.Header.{Header};
 ghost use Rattle.pack_mirror.specs.Roots.{StandsFor};
 
-use crate::answering::{answer_from_file, prove_from_file};
-use crate::opening::read_root;
-use node_pack::{PackFault, ReadAt};
+use crate::answering::{answer_from_nodes, prove_from_nodes};
+use crate::kept::KeptNodes;
+use node_pack::{PackFault, PackSource, ReadAt};
 use osm_gate::{Mirror, MirrorFault};
 use osm_prove::{Answered, Proved};
 use std::alloc::Global;
 use std::marker::Model;
 use tree_node::Digest;
 
+/// How many bytes a mirror keeps from query to query at most, 64 MiB.
+pub const STOCK_LIMIT: u64 = 67_108_864;
+
 /// A pack file that queries are asked of. Contracts see it as the root that its header stated when it was opened: what the
 /// file gives may change at any time, and nothing of it is trusted.
 ///
-/// Each query reads the header and the nodes that it needs, each of them once, and its memory is that of these nodes and of
-/// what is given: nothing of it is kept for the next query. So a file that was replaced, cut or damaged meanwhile is a failed
-/// device to each query that meets this, and the next one is answered again once the file is well.
+/// The file stays open, and its header is read once. A query reads the nodes that it needs, each of them once, and digests
+/// them. They are kept for later queries, as are the places in the file that were learned of them; so a query that needs only
+/// such nodes reads nothing, and digests nothing. Where nodes and places would be more than a limit (of bytes, each node and
+/// each place with 100 bytes beside its own), all of them are dropped at once, and are read anew as they are needed. Memory is
+/// that limit at most, and beside it that of the nodes that a query reads and of what is given.
+///
+/// Only nodes are kept that have the digest that was asked. So a file that was replaced, cut or damaged meanwhile is a failed
+/// device to each query that reads what is gone; one that needs only what is kept is answered as before. After a failed device
+/// all that was kept is dropped too, so the next query reads anew, and is answered once the file is well.
 #[derive(Drop)]
 pub struct PackMirror<F: ReadAt + Drop> {
-    file: F,
+    nodes: KeptNodes<F>,
     root: Digest,
 }
 
@@ -40,13 +49,13 @@ impl<F: ReadAt + Drop> Model for PackMirror<F> {
 }
 
 impl<F: ReadAt + Drop> PackMirror<F> {
-    /// Reads the header of a pack. No node is read yet.
+    /// Reads the header of a pack, of which [`STOCK_LIMIT`] bytes are kept at most. No node is read yet.
     ///
     /// # Errors
     ///
     /// The first thing that is at fault with the header, as [`node_pack::PackSource::open`] tells it; `Device` where the file
     /// isn't read, and `Memory` where an allocation is refused.
-    pub fn open(alloc: Global, mut file: F) -> Result<PackMirror<F>, PackFault>
+    pub fn open(alloc: Global, file: F) -> Result<PackMirror<F>, PackFault>
         // Of a pack of a publication, it stands for that publication, unless a node of it and other bytes have one digest.
         ensures stands { (p : Publication) (nodes : List Kept) → F.reads file (pack (root_of p) nodes)
             → IsPack (pack (root_of p) nodes) (root_of p) nodes
@@ -58,8 +67,33 @@ impl<F: ReadAt + Drop> PackMirror<F> {
         // or the first thing that is at fault is told, unless the device fails or memory is refused.
         ensures refused { (bytes : List ℕ) → F.reads file bytes → IfErr result (IsOpenFault bytes) }
     {
-        let root = read_root(alloc, &mut file)?;
-        Ok(PackMirror { file, root })
+        PackMirror::open_with_limit(alloc, file, STOCK_LIMIT)
+    }
+
+    /// Reads the header of a pack, of which at most so many bytes are kept from query to query. With 0 nothing is kept. No node
+    /// is read yet.
+    ///
+    /// # Errors
+    ///
+    /// As of [`PackMirror::open`].
+    pub fn open_with_limit(alloc: Global, file: F, limit: u64) -> Result<PackMirror<F>, PackFault>
+        // Of a pack of a publication, it stands for that publication, unless a node of it and other bytes have one digest.
+        ensures stands { (p : Publication) (nodes : List Kept) → F.reads file (pack (root_of p) nodes)
+            → IsPack (pack (root_of p) nodes) (root_of p) nodes
+            → IsPublication p → ¬ Clash (IsNodeOf p) (λ _. ⊤)
+            → IfOk result (λ mirror. StandsFor mirror p) }
+        // The root is that of the file's header, and the file has as many bytes as the header states,
+        ensures header { (bytes : List ℕ) → F.reads file bytes → IfOk result (λ mirror. (header : Header)
+            × (header_at (take 60 bytes) (length bytes) ≡ Ok header) × (mirror ≡ header.root)) }
+        // or the first thing that is at fault is told, unless the device fails or memory is refused.
+        ensures refused { (bytes : List ℕ) → F.reads file bytes → IfErr result (IsOpenFault bytes) }
+    {
+        let source = PackSource::open(alloc, file)?;
+        let root = source.root();
+        Ok(PackMirror {
+            nodes: KeptNodes::new(alloc, source, limit),
+            root,
+        })
     }
 
     /// The root that the header stated when the pack was opened.
@@ -88,7 +122,7 @@ impl<F: ReadAt + Drop> Mirror for PackMirror<F> {
         query: &[u8],
         most: Option<u64>,
     ) -> Result<Answered, MirrorFault> {
-        answer_from_file(alloc, &mut self.file, &self.root, query, most)
+        answer_from_nodes(alloc, &mut self.nodes, &self.root, query, most)
     }
 
     fn prove_within(
@@ -97,6 +131,6 @@ impl<F: ReadAt + Drop> Mirror for PackMirror<F> {
         query: &[u8],
         most: Option<u64>,
     ) -> Result<Proved, MirrorFault> {
-        prove_from_file(alloc, &mut self.file, &self.root, query, most)
+        prove_from_nodes(alloc, &mut self.nodes, &self.root, query, most)
     }
 }

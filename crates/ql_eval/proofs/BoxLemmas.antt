@@ -1,5 +1,5 @@
 -- The nodes in a box.
-use Rattle.std.proofs.Common.{◌≡◌, ◌↔◌, inl, inr, ℕ, ℤ, List, [], ◌∷◌, ◌++◌, map, FitsSigned, w64, Result, Ok, Err, MatchResult, refl, sym, ap, subst, ◌∙◌, arith}
+use Rattle.std.proofs.Common.{◌≡◌, ◌↔◌, inl, inr, ℕ, ℤ, List, [], ◌∷◌, ◌++◌, length, map, FitsSigned, w64, Result, Ok, Err, MatchResult, refl, sym, ap, subst, ◌∙◌, arith}
 use Rattle.std.specs.Prelude.{IfErr, OnOk}
 use Rattle.std.specs.Int.Signed.{<ℤ-≤ℤ_trans, <ℤ_irrefl, ≤ℤ_refl}
 use Rattle.std.specs.List.{Contains, flat_map}
@@ -31,13 +31,15 @@ use Rattle.ref_sets.proofs.shared.Adding.{adds_as, adds_nothing, adds_one, adds_
 use Rattle.ref_sets.specs.Adding.{Adds, From}
 use Rattle.ref_sets.specs.Sets.{IsSetOf}
 use Rattle.ql_meaning.specs.Values.{IsRefOf}
-use Rattle.ql_eval.specs.Asks.{IsAskedInBox, IsInBox}
+use Rattle.ql_eval.specs.Asks.{IsAskedInBox}
 use Rattle.ql_eval.specs.Faults.{cause_of_evaluation}
 use Rattle.ql_eval.specs.Questions.{NeededBy}
 use Rattle.ql_eval.specs.declared.fault.EvalFault.{EvalFault}
-use Rattle.ql_eval.specs.internal.Boxes.{IsCellsAsk, IsFoundIn}
-use Rattle.ql_eval.specs.Forms.{HasForm, SaysPlace}
-use Rattle.ql_eval.specs.internal.Entries.{AreMisread, IsSaid, PlacesIn, SaysIn}
+use Rattle.ql_eval.specs.Work.{IsInCellsOf}
+use Rattle.ql_eval.specs.internal.Affording.{IsSizeOf}
+use Rattle.ql_eval.specs.internal.Boxes.{IsCellsAsk, IsFoundIn, IsInBox, IsInRange}
+use Rattle.ql_eval.specs.Forms.{HasForm, Names, SaysPlace}
+use Rattle.ql_eval.specs.internal.Entries.{AreMisread, IsSaid, Places, PlacesIn, SaysIn}
 use Rattle.ql_eval.proofs.EachLemmas.{needed_as}
 use Rattle.ql_eval.proofs.EntryLemmas.{entry_names, never_unread, set_as}
 use Rattle.ql_eval.proofs.NameLemmas.{one_placed}
@@ -53,6 +55,16 @@ node_added area b r place names more says fits holds e =
 pub node_outside : (area : ExactBox) (b : Binding) (r : Ref) (place : Place) (names : List Ref) → SaysPlace b r place → FitsSigned w64 r.id → ¬ Holds area place → Adds names names (PlacesIn area b)
 node_outside area b r place names says fits outside =
     adds_nothing (λ s ((other, said, held), fits_too). outside (subst (Holds area) (one_location other place said.is_place says.is_place (sym said.value ∙ says.value)) held))
+
+-- and is one of all
+pub node_read : (b : Binding) (r : Ref) (place : Place) (cells more : List Ref) → SaysPlace b r place → FitsSigned w64 r.id → more ≡ cells ++ r ∷ [] → Adds cells more (Places b)
+node_read b r place cells more says fits e = adds_one r e ((place, says), fits) (λ s ((other, said), fits_too). one_placed b r s place other fits fits_too says said)
+
+pub nodes_read : (found : List Item) (cells more : List Ref) → Adds cells more (From found (λ item. Places (binding_of item))) → Adds cells more (IsSaid (Names Cells) (bindings_of found))
+nodes_read found cells more so = adds_as
+    (λ r (item, among, (says, fits)). (binding_of item, in_map binding_of found item among, says, fits))
+    (λ r (b, among, says, fits). let (item, has, e) = from_map binding_of found b among in (item, has, subst (λ (c : Binding). Places c r) e (says, fits)))
+    so
 
 -- what items add, entries add
 pub nodes_added : (area : ExactBox) (found : List Item) (names more : List Ref) → Adds names more (From found (λ item. PlacesIn area (binding_of item))) → Adds names more (IsSaid (SaysIn area) (bindings_of found))
@@ -131,6 +143,28 @@ module _ (p : Publication) (is : IsPublication p) (area : ExactBox) where
         (range, among, (o, place, there, named, node, inside, holds))),
   )
 
+  -- all nodes that one range finds
+  pub said_in_range : (range : Range) (found : List Binding) → AreThose (IsEntryIn range) (p.entries Cells) found → (r : Ref) → IsSaid (Names Cells) found r ↔ IsInRange p.objects range r
+  said_in_range range found those r = (
+    (λ (b, among, (place, says), fits).
+        let (o, at, there, node, inside, entry) = (cell_found p is range found those b).0 among in
+        let element = is_element p.objects o is.set there in
+        let (named_place, said) = entry_names o Cells b element (at, node, entry) in
+        (o, at, there, one_placed b (reference o) r named_place place element.in_range fits said says, node, inside)),
+    (λ (o, place, there, named, node, inside).
+        let element = is_element p.objects o is.set there in
+        let entry = cell_entry place o.id in
+        subst (λ (s : Ref). IsSaid (Names Cells) found s) named
+        (entry, (cell_found p is range found those entry).1 (o, place, there, node, inside, refl), entry_names o Cells entry element (place, node, refl), element.in_range)),
+  )
+
+  pub in_cells : (ranges : List Range) → AreCellRanges area ranges → (r : Ref) → From ranges (IsInRange p.objects) r ↔ IsRefOf p.objects (IsInCellsOf area) r
+  in_cells ranges are r = (
+    (λ (range, among, (o, place, there, named, node, inside)). (o, there, named, (ranges, are, (range, place, among, node, inside)))),
+    (λ (o, there, named, (others, are_too, (range, place, among, node, inside))).
+        (range, subst (λ (l : List Range). Contains l range) (one_ranges area others ranges are_too are) among, (o, place, there, named, node, inside))),
+  )
+
   pub box_needs : (ranges : List Range) → AreCellRanges area ranges → (x : List ℕ) → NeededBy p (From ranges IsCellsAsk) x → NeededBy p (IsAskedInBox area) x
   box_needs ranges are = needed_as (λ ask (range, among, e). (ranges, are, (range, among, e)))
 
@@ -146,6 +180,26 @@ module _ (p : Publication) (is : IsPublication p) (area : ExactBox) where
     | inl memory ↦ ap cause_of_evaluation memory
     | inr form ↦ absurd (never_unread p is Cells found range those form.1)
   ]
+
+  -- and all nodes that it has
+  pub range_read : (range : Range) (found : List Binding) (cells more : List Ref) → AreThose (IsEntryIn range) (p.entries Cells) found → (result : Result (Unit {0}) EvalFault)
+      → OnOk result (Adds cells more (IsSaid (Names Cells) found)) → IfErr result (AreMisread Cells found)
+      → MatchResult result (λ _. Adds cells more (IsInRange p.objects range)) (λ fault. cause_of_evaluation fault ≡ NoMemory)
+  range_read range found cells more those (Ok value) added refused = adds_as (λ r. (said_in_range range found those r).0) (λ r. (said_in_range range found those r).1) added
+  range_read range found cells more those (Err fault) added refused = elim refused [
+    | inl memory ↦ ap cause_of_evaluation memory
+    | inr form ↦ absurd (never_unread p is Cells found range those form.1)
+  ]
+
+  -- how many nodes all ranges have
+  pub cells_size : (ranges : List Range) (cells sorted : List Ref) (size : ℕ) → AreCellRanges area ranges → Adds [] cells (From ranges (IsInRange p.objects)) → IsSetOf sorted (Contains cells) → size ≡ length sorted
+      → IsSizeOf (IsRefOf p.objects (IsInCellsOf area)) size
+  cells_size ranges cells sorted size are so set e = (
+    sorted,
+    set_as sorted (Contains cells) (IsRefOf p.objects (IsInCellsOf area))
+        (λ r. ((λ has. (in_cells ranges are r).0 ((adds_to_nothing refl so r).0 has)), (λ within. (adds_to_nothing refl so r).1 ((in_cells ranges are r).1 within)))) set,
+    e,
+  )
 
   -- the nodes of all ranges, as a set
   pub box_set : (ranges : List Range) (names sorted : List Ref) → AreCellRanges area ranges → Adds [] names (From ranges (IsFoundIn p.objects area)) → IsSetOf sorted (Contains names) → IsSetOf sorted (IsRefOf p.objects (IsInBox area))

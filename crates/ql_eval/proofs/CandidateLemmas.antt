@@ -20,10 +20,12 @@ use Rattle.ref_sets.specs.Adding.{Adds, From}
 use Rattle.ref_sets.specs.Sets.{IsSetOf}
 use Rattle.ref_sets.specs.NamedSets.{Env}
 use Rattle.ql_meaning.specs.Values.{IsPicked, IsRefOf, IsSelected}
-use Rattle.ql_eval.specs.Asks.{AskedByBase, IsInBox, kind_picked, kinds_of}
+use Rattle.ql_eval.specs.Asks.{AskedByBase, kind_picked, kinds_of}
+use Rattle.ql_eval.specs.internal.Boxes.{IsInBox}
 use Rattle.ql_eval.specs.Faults.{cause_of_evaluation}
 use Rattle.ql_eval.specs.Questions.{Answers, NeededBy, WithTag}
 use Rattle.ql_eval.specs.declared.fault.EvalFault.{EvalFault}
+use Rattle.ql_eval.specs.internal.Affording.{AreApart}
 use Rattle.ql_eval.specs.internal.Candidates.{IsKeptOf, IsKindAsk, IsOfIds, IsOfThisKind, IsWith}
 use Rattle.ql_eval.specs.internal.Entries.{IsThere}
 use Rattle.ql_eval.specs.internal.Links.{AreThere, IsObjectAsk, IsThereAs}
@@ -71,14 +73,23 @@ kinds_have (Some kind) r = (
 
 module _ (objects : List Element) (env : Env) (pick : Pick) where
   -- a scan
+  pub kinds_selected : (r : Ref) → From (kinds_of (kind_picked pick)) (IsOfThisKind objects) r ↔ IsRefOf objects (IsSelected objects env pick []) r
+  kinds_selected r = (
+    (λ (kind, among, (o, there, named, of_kind)).
+        let has : Contains (kinds_of (kind_picked pick)) (reference o).kind = subst (λ (k : Kind). Contains (kinds_of (kind_picked pick)) k) (sym of_kind) among in
+        (o, there, named, ((picked_kind pick o).1 ((kinds_have (kind_picked pick) (reference o)).0 has), tt))),
+    (λ (o, there, named, (picked, all)). ((reference o).kind, (kinds_have (kind_picked pick) (reference o)).1 ((picked_kind pick o).0 picked), (o, there, named, refl))),
+  )
+
   pub all_selected : (refs : List Ref) → IsSetOf refs (From (kinds_of (kind_picked pick)) (IsOfThisKind objects)) → IsSetOf refs (IsRefOf objects (IsSelected objects env pick []))
-  all_selected refs is = set_as refs (From (kinds_of (kind_picked pick)) (IsOfThisKind objects)) (IsRefOf objects (IsSelected objects env pick []))
-      (λ r. (
-        (λ (kind, among, (o, there, named, of_kind)).
-            let has : Contains (kinds_of (kind_picked pick)) (reference o).kind = subst (λ (k : Kind). Contains (kinds_of (kind_picked pick)) k) (sym of_kind) among in
-            (o, there, named, ((picked_kind pick o).1 ((kinds_have (kind_picked pick) (reference o)).0 has), tt))),
-        (λ (o, there, named, (picked, all)). ((reference o).kind, (kinds_have (kind_picked pick) (reference o)).1 ((picked_kind pick o).0 picked), (o, there, named, refl))),
-      )) is
+  all_selected refs is = set_as refs (From (kinds_of (kind_picked pick)) (IsOfThisKind objects)) (IsRefOf objects (IsSelected objects env pick [])) kinds_selected is
+
+  -- a tag
+  pub tag_selected : (key value : List ℕ) (r : Ref) → IsRefOf objects (Answers (WithTag key value (kind_picked pick))) r ↔ IsRefOf objects (IsSelected objects env pick (KeyIs key value ∷ [])) r
+  tag_selected key value r = (
+    (λ (o, there, named, (of_kind, has)). (o, there, named, ((picked_kind pick o).1 of_kind, (has, tt)))),
+    (λ (o, there, named, (picked, (has, all))). (o, there, named, ((picked_kind pick o).0 picked, has))),
+  )
 
   -- a base
   pub one_selected : (filter : Filter) (refs : List Ref) → IsSetOf refs (IsKeptOf objects env (kind_picked pick) filter) → IsSetOf refs (IsRefOf objects (IsSelected objects env pick (filter ∷ [])))
@@ -87,6 +98,14 @@ module _ (objects : List Element) (env : Env) (pick : Pick) where
         (λ (of_kind, (o, there, named, passes)). (o, there, named, ((picked_kind pick o).1 (subst (λ (s : Ref). IsKindOf (kind_picked pick) s) (sym named) of_kind), (passes, tt)))),
         (λ (o, there, named, (picked, (passes, all))). (subst (λ (s : Ref). IsKindOf (kind_picked pick) s) named ((picked_kind pick o).0 picked), (o, there, named, passes))),
       )) is
+
+-- the kinds of a statement are apart
+pub kinds_apart : (kind : Option Kind) → AreApart (kinds_of kind)
+kinds_apart None = (
+  (λ has. elim (first_or_in_rest kinds.Way (kinds.Rel ∷ []) kinds.Node has) [ inl same ↦ cc | inr later ↦ elim (first_or_in_rest kinds.Rel [] kinds.Node later) [ inl same ↦ cc | inr never ↦ none kinds.Node never ] ]),
+  ((λ has. elim (first_or_in_rest kinds.Rel [] kinds.Way has) [ inl same ↦ cc | inr never ↦ none kinds.Way never ]), ((λ has. none kinds.Rel has), tt)),
+)
+kinds_apart (Some kind) = ((λ has. none kind has), tt)
 
 -- ---- sorts of bases
 

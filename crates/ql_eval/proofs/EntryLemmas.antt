@@ -26,10 +26,10 @@ use Rattle.osm_keys.proofs.shared.RangeLaws.{back_found, fits_of_lists, kind_fou
 use Rattle.ref_sets.specs.Sets.{IsSetOf}
 use Rattle.ql_meaning.specs.Values.{IsRefOf}
 use Rattle.ql_eval.specs.Faults.{cause_of_evaluation}
-use Rattle.ql_eval.specs.Questions.{Answers, HasNoNulIn, OfKind, Question, ThatList, WithKey, WithTag, range_asked, tree_asked}
+use Rattle.ql_eval.specs.Questions.{Answers, OfKind, Question, ThatList, WithKey, WithTag, range_asked, tree_asked}
 use Rattle.ql_eval.specs.declared.fault.EvalFault.{EvalFault}
 use Rattle.ql_eval.specs.Forms.{Names}
-use Rattle.ql_eval.specs.internal.Entries.{AreMisread, HasUnread, IsSaid, TargetFits}
+use Rattle.ql_eval.specs.internal.Entries.{AreMisread, HasNoNulIn, HasUnread, IsSaid, TargetFits}
 use Rattle.ql_eval.proofs.NameLemmas.{one_named}
 use Rattle.ql_eval.proofs.ObjectLemmas.{line_puts}
 

@@ -38,3 +38,4 @@ pub mod MeterLemmas
 pub mod WorkLaws
 pub mod RecallLemmas
 pub mod SameLemmas
+pub mod AffordingLemmas

@@ -11,11 +11,10 @@ use Rattle.ql_syntax.specs.LawfulQueries.{IsQuery, IsTop}
 use Rattle.ql_syntax.specs.StatementViews.{statement_of, statements_of}
 use Rattle.ql_syntax.specs.Statements.{Statements, End, Then}
 use Rattle.ql_syntax.specs.declared.statement.Stmt.{Stmt}
-use Rattle.ql_meaning.proofs.shared.Answering.{prints_by, prints_next_by}
+use Rattle.ql_meaning.proofs.shared.Answering.{PrintsTo_by, prints_by, prints_next_by}
 use Rattle.ql_meaning.proofs.shared.MeaningLaws.{after_once}
 use Rattle.ql_meaning.specs.Meanings.{After, Means_by, Telling, told_by}
 use Rattle.ref_sets.specs.NamedSets.{nothing_named, Env}
-use Rattle.ql_meaning.specs.Runs.{PrintsTo_by}
 use Rattle.ql_eval.specs.Asks.{AskedBy, AskedByAll}
 use Rattle.ql_eval.specs.Faults.{cause_of_evaluation}
 use Rattle.ql_eval.specs.Questions.{Ask, NeededBy}

@@ -40,7 +40,7 @@ one_of_base objects (Some (KeyIs key value)) = one_steps 0
 one_of_base objects (Some (LacksKey key)) = one_steps 0
 one_of_base objects (Some (KeyIsNot key value)) = one_steps 0
 one_of_base objects (Some (Ids ids)) = one_steps 0
-one_of_base objects (Some (Within area)) = one_steps 0
+one_of_base objects (Some (Within area)) = one_of_set (λ found. one_steps (length found))
 one_of_base objects (Some (Via path name)) = one_steps 0
 
 one_of_plan : {Work : Planned → ℕ → Type 0} (p : Publication) (kind : Option Kind) (filters : List Filter) → ((plan : Planned) → IsOne (Work plan)) → IsOne (OfPlan p kind filters Work)

@@ -3,11 +3,9 @@
 use Rattle.std.specs.Prelude.{◌≡◌, ◌≢◌, ◌⊎◌, ℕ, List, [], ◌∷◌, Option, Some, None}
 use Rattle.std.specs.List.{Contains}
 use Rattle.std.specs.Option.{option_to_list}
-use Rattle.osm_model.specs.Boxes.{ExactBox, Holds}
+use Rattle.osm_model.specs.Boxes.{ExactBox}
 use Rattle.osm_model.specs.Elements.{Element, reference}
 use Rattle.osm_model.specs.Membership.{BodyLists}
-use Rattle.osm_model.specs.Places.{Place}
-use Rattle.osm_model.specs.declared.body.Body.TheVariants as bodies
 use Rattle.osm_model.specs.declared.kind.Kind.{Kind}
 use Rattle.osm_model.specs.declared.kind.Kind.TheVariants as kinds
 use Rattle.osm_model.specs.declared.reference.Ref.{Ref}
@@ -72,10 +70,6 @@ kinds_of (Some kind) = kind ∷ []
 -- the cells that the box meets
 abbrev pub IsAskedInBox : ExactBox → Ask → Type 0
 IsAskedInBox area ask = (ranges : List Range) × AreCellRanges area ranges × AskedFor (Contains ranges) (λ range. Listed Cells range) ask
-
--- a node in the box
-abbrev pub IsInBox : ExactBox → Element → Type 0
-IsInBox area o = (place : Place) × (o.body ≡ bodies.Node place) × Holds area place
 
 -- ---- the plan of a query statement
 

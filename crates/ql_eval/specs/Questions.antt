@@ -1,9 +1,8 @@
 -- What an evaluation asks the trees of a publication: questions, the ranges of keys that each asks for, and the objects
 -- that it is after.
 -- Source: this project's evaluation, docs/FORMATS.md.
-use Rattle.std.specs.Prelude.{◌≡◌, ℕ, List, Option, ⊤}
+use Rattle.std.specs.Prelude.{◌≡◌, ℕ, List, Option}
 use Rattle.osm_model.specs.Elements.{Element, kind_of, reference}
-use Rattle.osm_model.specs.Limits.{HasNoNul}
 use Rattle.osm_model.specs.Membership.{BodyLists}
 use Rattle.osm_model.specs.Tagged.{HasKeyOf, HasTag}
 use Rattle.osm_model.specs.declared.kind.Kind.{Kind}
@@ -82,10 +81,3 @@ Answers (OfKind kind) o = kind_of o.body ≡ kind
 Answers (WithTag key value kind) o = IsKindOf kind (reference o) × HasTag o key value
 Answers (WithKey key) o = HasKeyOf o key
 Answers (ThatList target kind) o = IsKindOf kind (reference o) × BodyLists o.body target
-
--- keys and values have no NUL, as those of every query
-abbrev pub HasNoNulIn : Question → Type 0
-HasNoNulIn (OfKind kind) = ⊤
-HasNoNulIn (WithTag key value kind) = HasNoNul key × HasNoNul value
-HasNoNulIn (WithKey key) = HasNoNul key
-HasNoNulIn (ThatList target kind) = ⊤

@@ -1,14 +1,21 @@
 -- How much an evaluation does for a query over a publication, in bytes that are written and in steps. It is defined from
 -- what statements mean, and not from what the code does.
 -- Source: this project.
+use Rattle.std.specs.List.{Contains}
 use Rattle.std.specs.Prelude.{◌≡◌, ◌⊎◌, ◌+◌, ◌*◌, ◌-◌, ◌^◌, ◌<◌, ℕ, min, List, [], ◌∷◌, length, Option, Some, None, Result, Ok, Err, ⊤}
+use Rattle.osm_model.specs.Boxes.{ExactBox}
 use Rattle.osm_model.specs.Elements.{Element}
+use Rattle.osm_model.specs.Places.{Place}
 use Rattle.osm_model.specs.Tagged.{HasKeyOf}
+use Rattle.osm_model.specs.declared.body.Body.TheVariants as bodies
 use Rattle.osm_model.specs.declared.kind.Kind.{Kind}
 use Rattle.osm_model.specs.declared.out_mode.OutMode.{OutMode}
 use Rattle.osm_model.specs.declared.reference.Ref.{Ref}
 use Rattle.tree_node.specs.Outcomes.{Clash}
+use Rattle.tree_walk.specs.Ranges.{IsIn, Range}
+use Rattle.osm_keys.specs.Keys.{cell_key}
 use Rattle.osm_keys.specs.Publications.{Publication, manifest_of}
+use Rattle.osm_keys.specs.Ranges.{AreCellRanges}
 use Rattle.ql_syntax.specs.Filters.{Filter, InSet, HasKey, KeyIs, LacksKey, KeyIsNot, Ids, Within, Via}
 use Rattle.ql_syntax.specs.Statements.{Statement, Statements, Select, Recurse, Item, Union, Minus, Print, End, Then}
 use Rattle.ql_syntax.specs.declared.pick.Pick.{Pick}
@@ -81,7 +88,14 @@ abbrev pub read_by_all : Env → List Filter → ℕ
 read_by_all env [] = 0
 read_by_all env (filter ∷ filters) = (1 + read_by env filter) + read_by_all env filters
 
--- what a base reads that isn't found: by a key alone, the objects of all kinds that have it
+-- a node in one of the cells that the box meets, whether it lies in the box or beside it
+abbrev pub IsInCellsOf : ExactBox → Element → Type 0
+IsInCellsOf area o =
+    (ranges : List Range) × AreCellRanges area ranges
+    × ((range : Range) × (place : Place) × Contains ranges range × (o.body ≡ bodies.Node place) × IsIn range (cell_key place o.id))
+
+-- what a base reads, of which the candidates are a part: by a key alone, the objects of all kinds that have it; in a box, the
+-- nodes in the cells that the box meets. Where all that is read is a candidate, it counts as such alone
 abbrev pub WorkOfBase : List Element → Option Filter → ℕ → Type 0
 WorkOfBase objects None n = Steps 0 n
 WorkOfBase objects (Some (InSet name)) n = Steps 0 n
@@ -90,7 +104,7 @@ WorkOfBase objects (Some (KeyIs key value)) n = Steps 0 n
 WorkOfBase objects (Some (LacksKey key)) n = Steps 0 n
 WorkOfBase objects (Some (KeyIsNot key value)) n = Steps 0 n
 WorkOfBase objects (Some (Ids ids)) n = Steps 0 n
-WorkOfBase objects (Some (Within area)) n = Steps 0 n
+WorkOfBase objects (Some (Within area)) n = OfSet (IsRefOf objects (IsInCellsOf area)) (λ found. Steps (length found)) n
 WorkOfBase objects (Some (Via path name)) n = Steps 0 n
 
 -- a query statement by a plan: what its base reads, a step for each candidate, and one for each filter that

@@ -20,3 +20,4 @@ pub mod Objects
 pub mod Remembering
 pub mod Metering
 pub mod Recalling
+pub mod Affording

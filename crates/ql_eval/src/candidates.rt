@@ -17,11 +17,13 @@ ghost use Rattle.ref_sets.specs.NamedSets.{lists_of};
 ghost use Rattle.ql_meaning.specs.Values.{IsRefOf, IsSelected};
 ghost use Rattle.ql_plan.specs.Plans.{never, rank_of};
 ghost use Rattle.ql_eval.specs.Absences.{IsAskedById};
-ghost use Rattle.ql_eval.specs.Asks.{AskedByBase, AskedFor, IsAskedInBox, IsInBox, kind_picked};
+ghost use Rattle.ql_eval.specs.Asks.{AskedByBase, AskedFor, IsAskedInBox, kind_picked};
+ghost use Rattle.ql_eval.specs.internal.Boxes.{IsInBox};
 ghost use Rattle.ql_eval.specs.Faults.{cause_of_evaluation};
 ghost use Rattle.ql_eval.specs.Questions.{NeededBy, names_ask, object_ask};
 ghost use Rattle.ql_eval.specs.Questions as questions;
-ghost use Rattle.ql_eval.specs.Work.{HasNoClash, OfSet, Steps, WorkOfBase};
+ghost use Rattle.ql_eval.specs.Work.{HasNoClash, IsInCellsOf, OfSet, Steps, WorkOfBase};
+ghost use Rattle.ql_eval.specs.internal.Affording.{WorkOfFinding};
 ghost use Rattle.ql_eval.specs.internal.Candidates.{IsKeptOf, IsKindAsk, IsOfIds, IsOfThisKind, IsWith};
 ghost use Rattle.ql_eval.specs.internal.Entries.{IsThere};
 ghost use Rattle.ql_eval.specs.internal.Links.{AreAllThere};
@@ -29,6 +31,7 @@ ghost use Rattle.ql_eval.specs.internal.Giving.{AllGiven, AllSetsGiven};
 ghost use Rattle.ql_eval.specs.internal.Metering.{IsBounded, IsSpent};
 ghost use Rattle.tree_walk.specs.Uses.{nodes_around};
 
+use crate::affording::afford_base;
 use crate::fault::EvalFault;
 use crate::kinds::{first_kind, kind_of, kinds_in, last_kind};
 use crate::links::those_there;
@@ -41,7 +44,8 @@ use ql_syntax::{Filter, Pick};
 use ref_sets::{NamedSets, RefSet};
 use std::alloc::{AllocError, Global};
 
-/// The objects of a kind that the base keeps, or all of the kind where there is none, as a set.
+/// The objects of a kind that the base keeps, or all of the kind where there is none, as a set. Where there is a budget, what is
+/// to be read is counted before.
 pub(crate) fn find_candidates<W: Source>(
     alloc: Global,
     source: &mut W,
@@ -67,17 +71,24 @@ pub(crate) fn find_candidates<W: Source>(
         (IsRefOf p.objects (IsSelected p.objects env pick (option_to_list filter))))
         (NeededBy p (AskedByBase p.objects env (kind_picked pick) filter))
         (nodes_around W.holds W.used source.old source.new) result }
+    // Where it is refused before anything is read, steps for candidates may have been counted.
     ensures bounded { let env = lists_of sets.now.named.items in
         let filter = option_map (λ f. filter_of f.now) base.entry in
         (p : Publication) → IsPublication p → W.under source.old p → AreAllThere p.objects env
         → ForSome filter (Allows pick) → HasNoClash p (W.used source.new)
-        → IsBounded (WorkOfBase p.objects filter) meter.old.spent meter.new.spent }
+        → IsBounded (WorkOfFinding p env pick filter) meter.old.spent meter.new.spent }
+    ensures read { OnOk result (let env = lists_of sets.now.named.items in
+        let filter = option_map (λ f. filter_of f.now) base.entry in
+        (p : Publication) → IsPublication p → W.under source.old p → AreAllThere p.objects env
+        → ForSome filter (Allows pick) → HasNoClash p (W.used source.new)
+        → IsBounded (WorkOfBase p.objects filter) meter.old.spent meter.new.spent) }
     ensures spent { OnOk result (let env = lists_of sets.now.named.items in
         let filter = option_map (λ f. filter_of f.now) base.entry in
         (p : Publication) → IsPublication p → W.under source.old p → AreAllThere p.objects env
         → ForSome filter (Allows pick) → HasNoClash p (W.used source.new)
         → IsSpent (WorkOfBase p.objects filter) meter.old.spent meter.new.spent) }
 {
+    afford_base(source, meter, pick, base)?;
     match base {
         None => of_kinds(alloc, source, kinds_in(kind_of(pick))),
         Some(filter) => kept_by(alloc, source, meter, pick, filter, sets),
@@ -167,7 +178,7 @@ fn kept_by<W: Source>(
             kind,
         )),
         Filter::HasKey(key) => with_key(alloc, source, meter, key.as_bytes(), kind),
-        Filter::Within(area) => in_box(alloc, source, area, kind),
+        Filter::Within(area) => in_box(alloc, source, meter, area, kind),
         Filter::LacksKey(_) | Filter::KeyIsNot(_, _) => unreachable!("never a base"),
     }
 }
@@ -248,10 +259,11 @@ fn with_key<W: Source>(
     Ok(picked(alloc, &found, kind)?)
 }
 
-/// The nodes in a box, if nodes are asked for, as a set.
+/// The nodes in a box, if nodes are asked for, as a set. Those beside it in its cells are read too, and counted.
 fn in_box<W: Source>(
     alloc: Global,
     source: &mut W,
+    meter: &mut Meter,
     area: &BoxArea<'_>,
     kind: Option<Kind>,
 ) -> Result<RefSet, EvalFault>
@@ -264,9 +276,18 @@ fn in_box<W: Source>(
         (λ refs. IsSetOf refs (λ r. IsRefOf p.objects (IsInBox area.now) r × IsKindOf kind r))
         (NeededBy p (IsAskedInBox area.now))
         (nodes_around W.holds W.used source.old source.new) result }
+    ensures bounded { (p : Publication) → IsPublication p → W.under source.old p
+        → HasNoClash p (W.used source.new)
+        → IsBounded (OfSet (IsRefOf p.objects (IsInCellsOf area.now))
+        (λ found. Steps (length found))) meter.old.spent meter.new.spent }
+    ensures spent { OnOk result ((p : Publication) → IsPublication p → W.under source.old p
+        → HasNoClash p (W.used source.new)
+        → IsSpent (OfSet (IsRefOf p.objects (IsInCellsOf area.now))
+        (λ found. Steps (length found))) meter.old.spent meter.new.spent) }
 {
     let found = source.nodes_in(area)?;
-    Ok(picked(alloc, &found, kind)?)
+    meter.charge(found.read)?;
+    Ok(picked(alloc, &found.nodes, kind)?)
 }
 
 /// The references of a set that are of a kind, or all of them.

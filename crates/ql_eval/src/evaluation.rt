@@ -180,10 +180,15 @@ pub fn evaluate_in<'a, S: Shelf<'a>, T: Sink>(
 ///
 /// The budget counts 1 for a byte that is written, and 100 for a step: each statement, and each reference of the set that it
 /// writes; each filter of a query statement, each id that is written in it and each reference of a named set that it reads;
-/// each object that the base of a query statement finds, once more for each other filter, and where the base is a key alone,
-/// each object of any kind that has it; each reference of a set that a recursion starts from; and each object that is
-/// printed. What a statement finds is counted once it is found, so the last statement may do more than the budget has left.
-/// What was asked before and is remembered is counted as if it were done again.
+/// each object that the base of a query statement finds, once more for each other filter; where the base is a key alone,
+/// each object of any kind that has it, and where it is a box, each node in the cells that it meets; each reference of a set
+/// that a recursion starts from; and each object that is printed. What was asked before and is remembered is counted as if it
+/// were done again.
+///
+/// What a tag, a key, a box or a scan reads is counted before it is read, by walks that fetch only nodes at the ends of its
+/// ranges, and that the report counts too. Where it alone passes what the budget has left, nothing of it is read. What paths
+/// and recursions find is counted once it is found: it is bounded by what the objects of the set list that they start from, or
+/// by what lists them.
 ///
 /// A refusal leaves the text of the sink as it was. The nodes that were fetched until then stay used.
 pub fn evaluate_within<'a, S: Shelf<'a>, T: Sink>(

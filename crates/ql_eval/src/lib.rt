@@ -5,9 +5,11 @@
 //! it in another form than OPL.
 #![tactic(auto)]
 
+mod affording;
 mod announcing;
 mod answering;
 mod apply_filters;
+mod box_counts;
 mod boxes;
 mod candidates;
 mod cell_entry;

@@ -16,8 +16,8 @@ ghost use Rattle.ql_eval.specs.Openings.{IsUnder};
 ghost use Rattle.ql_eval.specs.TrueFaults.{IsNamedIn};
 ghost use Rattle.ql_eval.specs.internal.Giving.{AllGiven};
 ghost use Rattle.ql_eval.specs.internal.TrueFaults.{IsTrueUnder};
-ghost use Rattle.ql_eval.specs.Questions.{Answers, HasNoNulIn, IsCountOf, NeedsAsk, count_ask, names_ask, range_asked, tree_asked};
-ghost use Rattle.ql_eval.specs.internal.Entries.{TargetFits};
+ghost use Rattle.ql_eval.specs.Questions.{Answers, IsCountOf, NeedsAsk, count_ask, names_ask, range_asked, tree_asked};
+ghost use Rattle.ql_eval.specs.internal.Entries.{HasNoNulIn, TargetFits};
 ghost use Rattle.ql_eval.specs.internal.Views.{question_of};
 ghost use Rattle.tree_walk.specs.Uses.{nodes_around};
 

@@ -1,6 +1,6 @@
 //! What an evaluation may do, and what it did.
 
-ghost use Rattle.std.specs.Prelude.{◌≡◌, ◌*◌, ◌+◌, ◌-◌, ◌^◌, ◌<◌, ◌↔◌, IfSome, IsTrue, length, min};
+ghost use Rattle.std.specs.Prelude.{◌≡◌, ◌*◌, ◌+◌, ◌-◌, ◌^◌, ◌<◌, ◌↔◌, IfSome, IsSome, IsTrue, OnErr, OnOk, length, min};
 ghost use Rattle.ql_eval.specs.Work.{Passes, step_cost};
 ghost use Rattle.ql_eval.specs.internal.Metering.{IsCounted};
 
@@ -84,6 +84,31 @@ impl Meter {
     {
         self.spent = added(self.spent, work);
         self.stop()
+    }
+
+    /// Whether there is a budget.
+    pub(crate) fn is_limited(&self) -> bool
+        ensures { IsTrue result ↔ IsSome self.now.most }
+    {
+        self.most.is_some()
+    }
+
+    /// Refused as [`Meter::charge`] where so many more steps pass the budget. They are known to be part of the work, and are
+    /// counted then, though they aren't done: the evaluation ends. Where they don't pass it nothing is counted.
+    pub(crate) fn afford(&mut self, steps: u64) -> Result<(), AllocError>
+        ensures same { OnOk result (self.new.spent ≡ self.old.spent) }
+        ensures within { OnOk result (¬ Passes self.old.most (self.old.spent + step_cost * steps)) }
+        ensures counted { OnErr result
+            (IsCounted self.old.spent self.new.spent (step_cost * steps)) }
+        ensures passed { OnErr result (Passes self.old.most self.new.spent) }
+    {
+        let before = self.spent;
+        self.spent = added(before, STEP * steps as u128);
+        if self.passes(self.most) {
+            return Err(AllocError);
+        }
+        self.spent = before;
+        Ok(())
     }
 
     /// Refused where the budget is passed.

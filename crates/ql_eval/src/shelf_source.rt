@@ -9,7 +9,8 @@ ghost use Rattle.ql_eval.specs.Openings.{IsUnder};
 ghost use Rattle.ql_eval.specs.internal.Objects.{Remembers};
 
 use crate::announcing::announce_object;
-use crate::boxes::find_in_box;
+use crate::box_counts::count_in_box;
+use crate::boxes::{InBox, find_in_box};
 use crate::fault::EvalFault;
 use crate::known::{Known, look_up};
 use crate::lookups::{count_names, find_names};
@@ -231,8 +232,18 @@ impl<'s, 'q, 'a, S: Shelf<'a>> Source for ShelfSource<'s, 'q, 'a, S> {
         )
     }
 
-    fn nodes_in(&mut self, area: &BoxArea<'_>) -> Result<RefSet, EvalFault> {
+    fn nodes_in(&mut self, area: &BoxArea<'_>) -> Result<InBox, EvalFault> {
         find_in_box(
+            self.alloc,
+            &mut *self.shelf,
+            &self.manifest,
+            area,
+            &mut self.tally,
+        )
+    }
+
+    fn count_in(&mut self, area: &BoxArea<'_>) -> Result<u64, EvalFault> {
+        count_in_box(
             self.alloc,
             &mut *self.shelf,
             &self.manifest,

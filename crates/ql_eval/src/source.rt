@@ -11,9 +11,13 @@ ghost use Rattle.tree_node.specs.Shelves.{SameNodes, Stays};
 ghost use Rattle.osm_keys.specs.Publications.{IsPublication, Publication};
 ghost use Rattle.ref_sets.specs.Sets.{IsSetOf};
 ghost use Rattle.ql_meaning.specs.Values.{IsRefOf};
-ghost use Rattle.ql_eval.specs.Asks.{IsAskedInBox, IsInBox};
+ghost use Rattle.ql_eval.specs.Asks.{IsAskedInBox};
+ghost use Rattle.ql_eval.specs.internal.Affording.{IsSizeOf, IsWithinSet, Within};
+ghost use Rattle.ql_eval.specs.internal.Boxes.{IsInBox};
+ghost use Rattle.ql_eval.specs.Work.{IsInCellsOf};
 ghost use Rattle.ql_eval.specs.Faults.{cause_of_evaluation};
-ghost use Rattle.ql_eval.specs.Questions.{Answers, HasNoNulIn, IsCountOf, NeededBy, NeedsAsk, count_ask, names_ask, object_ask};
+ghost use Rattle.ql_eval.specs.Questions.{Answers, IsCountOf, NeededBy, NeedsAsk, count_ask, names_ask, object_ask};
+ghost use Rattle.ql_eval.specs.internal.Entries.{HasNoNulIn};
 ghost use Rattle.ql_eval.specs.declared.fault.EvalFault.{EvalFault};
 ghost use Rattle.ql_eval.specs.declared.fault.EvalFault.TheVariants.{Absent, Memory};
 ghost use Rattle.ql_syntax.specs.declared.recursion.Recursion.{Recursion};
@@ -23,6 +27,7 @@ ghost use Rattle.ql_eval.specs.internal.Remembering.{IsRecalled};
 ghost use Rattle.ql_eval.specs.internal.Views.{question_of};
 ghost use Rattle.tree_walk.specs.Uses.{nodes_around};
 
+use crate::boxes::InBox;
 use crate::fault::EvalFault;
 use crate::question::Question;
 use osm_model::{BoxArea, Object, Ref};
@@ -115,15 +120,31 @@ pub(crate) trait Source {
             (NeedsAsk p (count_ask (question_of question.now)))
             (nodes_around holds used self.old self.new) result };
 
-    /// The nodes in a box, as a set.
-    fn nodes_in(&mut self, area: &BoxArea<'_>) -> Result<RefSet, EvalFault>
+    /// The nodes in a box, as a set, and how many nodes the cells have that it meets.
+    fn nodes_in(&mut self, area: &BoxArea<'_>) -> Result<InBox, EvalFault>
         ensures later { later self.old self.new }
         ensures walked { OnOk result (walked self.old self.new) }
         ensures told { IfErr result (tells self.new) }
-        ensures named { IfOk result (AllGiven (gave self.new)) }
+        ensures named { IfOk result (λ found. AllGiven (gave self.new) found.nodes) }
         ensures answer { (p : Publication) → IsPublication p → under self.old p
             → Outcome cause_of_evaluation
-            (λ names. IsSetOf names (IsRefOf p.objects (IsInBox area.now)))
+            (λ found. IsSetOf found.nodes (IsRefOf p.objects (IsInBox area.now)))
+            (NeededBy p (IsAskedInBox area.now))
+            (nodes_around holds used self.old self.new) result }
+        ensures read { (p : Publication) → IsPublication p → under self.old p
+            → Outcome cause_of_evaluation
+            (λ found. IsSizeOf (IsRefOf p.objects (IsInCellsOf area.now)) found.read)
+            (NeededBy p (IsAskedInBox area.now))
+            (nodes_around holds used self.old self.new) result };
+
+    /// How many nodes the cells have at least that a box meets. It uses only nodes that reading them uses too.
+    fn count_in(&mut self, area: &BoxArea<'_>) -> Result<u64, EvalFault>
+        ensures later { later self.old self.new }
+        ensures walked { OnOk result (walked self.old self.new) }
+        ensures told { IfErr result (tells self.new) }
+        ensures answer { (p : Publication) → IsPublication p → under self.old p
+            → Within cause_of_evaluation
+            (IsWithinSet (IsRefOf p.objects (IsInCellsOf area.now)))
             (NeededBy p (IsAskedInBox area.now))
             (nodes_around holds used self.old self.new) result };
 

@@ -1,4 +1,3 @@
 pub mod Values
 pub mod Meanings
 pub mod ObjectTests
-pub mod Runs

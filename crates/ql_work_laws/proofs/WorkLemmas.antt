@@ -1,14 +1,13 @@
 -- What works bound.
-use Rattle.std.proofs.Common.{◌≡◌, ◌⊎◌, ◌∙◌, ℕ, ◌+◌, ◌*◌, ◌≤◌, List, [], ◌∷◌, ◌++◌, length, refl, sym, ap, subst, inl, inr, arith}
+use Rattle.std.proofs.Common.{◌≡◌, ◌∙◌, ℕ, ◌+◌, ◌*◌, ◌≤◌, List, length, sym, ap, subst, inl, inr, arith}
 use Rattle.std.proofs.lemmas.List.{length-append}
-use Rattle.osm_model.specs.Elements.{Element}
 use Rattle.osm_model.specs.declared.reference.Ref.{Ref}
 use Rattle.osm_keys.specs.Publications.{Publication}
 use Rattle.ql_syntax.specs.Statements.{Statement, Statements, Select, Recurse, Item, Union, Minus, Print, End, Then}
 use Rattle.ql_meaning.specs.Meanings.{After, Prints_by, Telling, given_by, told_by}
 use Rattle.ql_meaning.proofs.shared.MeaningLaws.{after_once}
 use Rattle.ref_sets.specs.NamedSets.{Env}
-use Rattle.ql_eval.specs.Work.{Both, Bytes, InRow, Later, Steps, WorkOf, WorkOfAll}
+use Rattle.ql_eval.specs.Work.{Both, InRow, Later, Steps, WorkOf, WorkOfAll}
 use Rattle.ql_work_laws.specs.WrittenSets.{IsWrittenIn, IsWrittenOr, IsWrittenWithin}
 
 module _ (tell : Telling) (p : Publication) where

@@ -3,6 +3,7 @@
 mod answers;
 mod budgets;
 mod contradictions;
+mod counting;
 mod fetches;
 mod lookups;
 mod opening;

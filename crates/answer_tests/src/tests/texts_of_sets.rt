@@ -13,6 +13,16 @@ pub(super) fn sixty_five(alloc: Global) -> Result<String, Fail> {
     Ok(text)
 }
 
+/// The same nodes, each with a tag.
+pub(super) fn sixty_five_tagged(alloc: Global) -> Result<String, Fail> {
+    let mut text = String::new(alloc);
+    for id in 1..66_u8 {
+        let line = format!(in alloc; "n{id} Ta=1 x0 y0\n")?;
+        text.push_str(line.as_str())?;
+    }
+    Ok(text)
+}
+
 pub(super) const ALL_KINDS: &str = "\
 n1 v1 dV c5 t2020-01-02T03:04:05Z i7 uAnn Thighway=crossing x13.4 y52.5\n\
 n2 x13.4000001 y52.5\n\

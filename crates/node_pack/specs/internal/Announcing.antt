@@ -1,6 +1,6 @@
 -- The hints that are kept.
 -- Source: this project.
-use Rattle.std.specs.Prelude.{◌≡◌, ◌≤◌, ◌+◌, ℕ, List, [], ◌∷◌, ◌++◌, length, map, sum_by}
+use Rattle.std.specs.Prelude.{◌≡◌, ◌+◌, ℕ, List, [], ◌∷◌, ◌++◌, length, map, sum_by}
 use Rattle.tree_node.specs.declared.digest.Digest.{Digest}
 use Rattle.node_pack.specs.Hints.{Announcement, hint_of}
 use Rattle.node_pack.specs.declared.announced.Announced.{Announced}

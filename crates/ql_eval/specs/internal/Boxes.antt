@@ -18,3 +18,12 @@ IsFoundIn objects area range r =
 
 abbrev pub IsCellsAsk : Range → Ask → Type 0
 IsCellsAsk range ask = ask ≡ Listed Cells range
+
+-- a node whose key is in the range, wherever it lies
+abbrev pub IsInRange : List Element → Range → Ref → Type 0
+IsInRange objects range r =
+    (o : Element) × (place : Place) × Contains objects o × (reference o ≡ r) × (o.body ≡ bodies.Node place) × IsIn range (cell_key place o.id)
+
+-- a node in the box
+abbrev pub IsInBox : ExactBox → Element → Type 0
+IsInBox area o = (place : Place) × (o.body ≡ bodies.Node place) × Holds area place

@@ -4,13 +4,15 @@ use Rattle.std.specs.List.{Contains}
 use Rattle.std.specs.Prelude.{◌≡◌, ◌↔◌, ◌⊎◌, List, [], FitsSigned, Option, Some, None, ⊤}
 use Rattle.osm_model.specs.Boxes.{ExactBox, Holds}
 use Rattle.osm_model.specs.Elements.{Element, reference}
+use Rattle.osm_model.specs.Limits.{HasNoNul}
 use Rattle.osm_model.specs.Places.{Place}
 use Rattle.osm_model.specs.Sets.{object_at}
 use Rattle.osm_model.specs.declared.reference.Ref.{Ref}
 use Rattle.tree_node.specs.Nodes.{Binding}
 use Rattle.tree_node.specs.declared.tree.Tree.{Tree}
+use Rattle.tree_node.specs.declared.tree.Tree.TheVariants.{Cells}
 use Rattle.osm_keys.specs.Entries.{object_entry}
-use Rattle.ql_eval.specs.Forms.{HasForm, SaysObject, SaysPlace}
+use Rattle.ql_eval.specs.Forms.{HasForm, Names, SaysObject, SaysPlace}
 use Rattle.ql_eval.specs.Questions.{OfKind, Question, ThatList, WithKey, WithTag}
 use Rattle.ql_eval.specs.declared.fault.EvalFault.{EvalFault}
 use Rattle.ql_eval.specs.declared.fault.EvalFault.TheVariants as faults
@@ -22,6 +24,10 @@ SaysIn area b r = (place : Place) × SaysPlace b r place × Holds area place
 -- and the node's id has 64 bits
 abbrev pub PlacesIn : ExactBox → Binding → Ref → Type 0
 PlacesIn area b r = SaysIn area b r × FitsSigned w64 r.id
+
+-- the entry of the cell tree says that the node lies somewhere, and the node's id has 64 bits
+abbrev pub Places : Binding → Ref → Type 0
+Places b r = Names Cells b r × FitsSigned w64 r.id
 
 -- some entry says this of the object, whose id has 64 bits
 abbrev pub IsSaid : (Binding → Ref → Type 0) → List Binding → Ref → Type 0
@@ -58,3 +64,10 @@ TargetFits (OfKind kind) = ⊤
 TargetFits (WithTag key value kind) = ⊤
 TargetFits (WithKey key) = ⊤
 TargetFits (ThatList target kind) = FitsSigned w64 target.id
+
+-- keys and values have no NUL, as those of every query
+abbrev pub HasNoNulIn : Question → Type 0
+HasNoNulIn (OfKind kind) = ⊤
+HasNoNulIn (WithTag key value kind) = HasNoNul key × HasNoNul value
+HasNoNulIn (WithKey key) = HasNoNul key
+HasNoNulIn (ThatList target kind) = ⊤

@@ -9,7 +9,16 @@ use Rattle.ql_syntax.specs.declared.statement.Stmt.{Stmt}
 use Rattle.ref_sets.proofs.shared.Adding.{one_more}
 use Rattle.ql_meaning.specs.Meanings.{After, Prints, Prints_by, Telling, told, told_by}
 use Rattle.ref_sets.specs.NamedSets.{Env}
-use Rattle.ql_meaning.specs.Runs.{PrintsTo, PrintsTo_by}
+
+-- the text is what these statements print, and these are the named sets after them
+abbrev pub PrintsTo_by : Telling → List Element → Statements → Env → Env → List ℕ → Type 0
+PrintsTo_by tell objects End env later text = (later ≡ env) × (text ≡ [])
+PrintsTo_by tell objects (Then statement statements) env later text =
+    (mid : Env) × (more : List ℕ) × After objects statement env mid × PrintsTo_by tell objects statements mid later more × (text ≡ told_by tell objects statement env ++ more)
+
+-- the same in OPL
+abbrev pub PrintsTo : List Element → Statements → Env → Env → List ℕ → Type 0
+PrintsTo objects statements env later text = PrintsTo_by text_of objects statements env later text
 
 prints_more_by : (tell : Telling) (objects : List Element) (xs : List Stmt) (x : Stmt) (env mid later : Env) (text : List ℕ)
     → PrintsTo_by tell objects (statements_of xs) env mid text → After objects (statement_of x) mid later → PrintsTo_by tell objects (statements_of (xs ++ x ∷ [])) env later (text ++ told_by tell objects (statement_of x) mid)

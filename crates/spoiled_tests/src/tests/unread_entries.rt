@@ -59,7 +59,7 @@ fn named_objects_without_a_line(rt: HostRuntime) -> Result<(), Fail> {
 }
 
 /// Entries under keys that are none of their trees, or with values that aren't, and queries that ask for them.
-const OTHERS: [(&str, Trees); 16] = [
+const OTHERS: [(&str, Trees); 18] = [
     // A key that is a byte short, and one that is a byte long.
     (
         "node;out ids;",
@@ -171,6 +171,24 @@ const OTHERS: [(&str, Trees); 16] = [
             &[],
             &[],
             &[(b"\x01\x80\0\0\0\0\0\0\x01\x02\x80\0\0\0\0\0\0\x0a", b"x")],
+        ],
+    ),
+    (
+        "way(10);rel(bw);out ids;",
+        [
+            &[WAY],
+            &[],
+            &[],
+            &[(b"\x02\x80\0\0\0\0\0\0\x0a\x03\x80\0\0\0\0\0\0\x64", b"x")],
+        ],
+    ),
+    (
+        "rel(100);rel(br);out ids;",
+        [
+            &[RELATION],
+            &[],
+            &[],
+            &[(b"\x03\x80\0\0\0\0\0\0\x64\x03\x80\0\0\0\0\0\0\x65", b"x")],
         ],
     ),
     (

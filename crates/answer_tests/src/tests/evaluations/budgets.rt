@@ -1,5 +1,6 @@
 //! Budgets: the work of a query, and what is refused with a budget that is one less.
 
+use crate::tests::evaluations::counting::Counting;
 use crate::tests::work_rows::WORK_ROWS;
 use crate::tests::{snapshot_of, texts_of_sets};
 use osm_forms::Form;
@@ -7,6 +8,7 @@ use osm_index::{Edition, Snapshot};
 use ql_eval::{EvalFault, Report, evaluate_within};
 use ql_syntax::{Query, parse};
 use std::alloc::Global;
+use std::process::Abort;
 use std::test::Fail;
 use tree_node::Recorder;
 
@@ -19,11 +21,121 @@ fn work_is_counted(rt: HostRuntime) -> Result<(), Fail> {
         let report = evaluated(alloc, &snapshot, &query, None)?;
         assert_eq!(rt; report.map(|report| report.work), Ok(*work), "{text}");
         let kept = evaluated(alloc, &snapshot, &query, Some(*work))?;
-        assert_eq!(rt; kept, report, "{text}");
+        assert_eq!(rt; kept.map(|report| report.work), Ok(*work), "{text}");
         let passed = evaluated(alloc, &snapshot, &query, work.checked_sub(1))?;
         assert_eq!(rt; passed, Err(EvalFault::Work), "{text}");
     }
     Ok(())
+}
+
+/// A box that goes round the earth to the column that it begins in, over three nodes: the ranges of a row have that column in
+/// common, in which one of them lies. It counts once: 1 step for the filter, 3 for the cells, 3 for the candidates, 4 for the
+/// statement and what it writes, and 4 for the out, which writes 9 bytes.
+#[test]
+fn a_node_in_two_ranges_counts_once(rt: HostRuntime) -> Result<(), Fail> {
+    let alloc = rt.alloc();
+    let snapshot = snapshot_of(alloc, texts_of_sets::DATELINE, Edition::One)?;
+    let query = parse(alloc, b"node(-1,0.05,1,0.04);out ids;")?;
+    let report = evaluated(alloc, &snapshot, &query, Some(1509))?;
+    assert_eq!(rt; report.map(|report| report.work), Ok(1509));
+    let passed = evaluated(alloc, &snapshot, &query, Some(1508))?;
+    assert_eq!(rt; passed, Err(EvalFault::Work));
+    Ok(())
+}
+
+/// A query over 65 nodes, what it has done before it reads them, and its work. Each tree of theirs has two leaves under one
+/// node.
+type Scan = (&'static str, u64, u64);
+
+/// A step for each filter, then one for each candidate, and one for the statement and each node that it writes; in the second
+/// and the last one each node is read as a step too.
+const SCANS: [Scan; 4] = [
+    ("node;", 0, 13100),
+    ("nwr[\"a\"];", 100, 19700),
+    ("node[\"a\"=\"1\"];", 100, 13200),
+    ("node(0,0,0.01,0.01);", 100, 19700),
+];
+
+#[test]
+fn scans_are_refused_before_they_read(rt: HostRuntime) -> Result<(), Fail> {
+    let alloc = rt.alloc();
+    let set = texts_of_sets::sixty_five_tagged(alloc)?;
+    let snapshot = snapshot_of(alloc, set.as_str(), Edition::One)?;
+    for (text, before, work) in &SCANS {
+        // The manifest, and then the top and the first leaf: what is after that is counted without being read.
+        let entries = before.saturating_add(6500);
+        let few = refused(&rt, &snapshot, text, entries.checked_sub(1))?;
+        assert_eq!(rt; few, 3, "{text}");
+        // With a step for each entry the top and both leaves are read after they were counted.
+        let read = refused(&rt, &snapshot, text, Some(entries))?;
+        assert_eq!(rt; read, 6, "{text}");
+        let almost = refused(&rt, &snapshot, text, work.checked_sub(1))?;
+        assert_eq!(rt; almost, 6, "{text}");
+        let query = parse(alloc, text.as_bytes())?;
+        let kept = evaluated(alloc, &snapshot, &query, Some(*work))?;
+        let wanted = Report {
+            ranges: 2,
+            fetched: 5,
+            work: *work,
+        };
+        assert_eq!(rt; kept, Ok(wanted), "{text}");
+        // Without a budget nothing is counted before.
+        let free = evaluated(alloc, &snapshot, &query, None)?;
+        let wanted = Report {
+            ranges: 1,
+            fetched: 3,
+            work: *work,
+        };
+        assert_eq!(rt; free, Ok(wanted), "{text}");
+    }
+    Ok(())
+}
+
+#[test]
+fn a_box_is_counted_within_memory(rt: HostRuntime) -> Result<(), Fail> {
+    let alloc = rt.alloc();
+    let snapshot = snapshot_of(alloc, texts_of_sets::ALL_KINDS, Edition::One)?;
+    let query = parse(
+        alloc,
+        b"node(52.49999999999,13.40000004,52.6,13.5);out ids;",
+    )?;
+    let report = match evaluated(alloc, &snapshot, &query, Some(803))? {
+        Ok(report) => report,
+        Err(fault) => {
+            assert_eq!(rt; fault, EvalFault::Memory);
+            evaluated(alloc, &snapshot, &query, Some(803))??
+        }
+    };
+    assert_eq!(rt; report.work, 803);
+    Ok(())
+}
+
+/// How often a shelf is asked for a node until a query is refused for its budget.
+fn refused(
+    rt: &(impl Abort + AllocGlobal),
+    snapshot: &Snapshot,
+    text: &str,
+    most: Option<u64>,
+) -> Result<u64, Fail> {
+    let alloc = rt.alloc();
+    let query = parse(alloc, text.as_bytes())?;
+    let mut shelf = Counting {
+        shelf: snapshot.stock().shelf(alloc),
+        fetches: 0,
+    };
+    let mut answer = Vec::new(alloc);
+    let root = snapshot.root();
+    let report = evaluate_within(
+        alloc,
+        Form::Opl,
+        &query,
+        root,
+        &mut shelf,
+        &mut answer,
+        most,
+    );
+    assert_eq!(rt; report, Err(EvalFault::Work), "{text}");
+    Ok(shelf.fetches)
 }
 
 /// The report of a query within a budget. A refusal writes nothing.

@@ -1,12 +1,12 @@
 //! How often a query walks, and how many nodes it fetches.
 
+use crate::tests::evaluations::counting::Counting;
 use crate::tests::{snapshot_of, texts_of_sets};
 use osm_index::Edition;
 use ql_eval::{Report, evaluate};
 use ql_syntax::parse;
 use std::process::Abort;
 use std::test::Fail;
-use tree_node::{Digest, Fetched, Shelf, ShelfFault};
 
 /// A query, how many walks it makes, and how many nodes they fetch.
 type Row = (&'static str, u64, u64);
@@ -58,39 +58,4 @@ fn check_rows(rt: &(impl Abort + AllocGlobal), set: &str, rows: &[Row]) -> Resul
         assert_eq!(rt; Some(shelf.fetches), fetched.checked_add(1), "{text}");
     }
     Ok(())
-}
-
-/// A shelf that counts by itself what it is asked for.
-#[derive(Drop)]
-struct Counting<S> {
-    shelf: S,
-    fetches: u64,
-}
-
-impl<'a, S: Shelf<'a>> Shelf<'a> for Counting<S> {
-    ghost holds = { λ counting. S.holds counting.shelf };
-
-    ghost is_fixed = { S.is_fixed };
-
-    ghost used = { λ counting. S.used counting.shelf };
-
-    ghost takes_memory = { S.takes_memory };
-
-    ghost clash_free = { λ counting. S.clash_free counting.shelf };
-
-    ghost used_held = { λ counting. S.used_held counting.shelf };
-
-    fn fetch(&mut self, key: &Digest) -> Result<&'a [u8], ShelfFault> {
-        self.fetches = self.fetches.saturating_add(1);
-        self.shelf.fetch(key)
-    }
-
-    fn fetch_node(&mut self, key: &Digest) -> Result<Fetched<'a>, ShelfFault> {
-        self.fetches = self.fetches.saturating_add(1);
-        self.shelf.fetch_node(key)
-    }
-
-    fn announce(&mut self, top: &Digest, lo: &[u8], hi: &[u8]) {
-        self.shelf.announce(top, lo, hi);
-    }
 }

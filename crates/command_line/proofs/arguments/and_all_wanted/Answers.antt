@@ -2,7 +2,7 @@ use Rattle.std.proofs.Common.{◌∙◌, ap, sym, suc, drop, add-one}
 use Rattle.std.proofs.Math.ListN.{drop_of_length-le}
 use Rattle.std.proofs.Math.Seq.{drop-cons}
 use Rattle.clap.specs.Words.{App, app_of}
-use Rattle.command_line.specs.Arguments.{with_wanted}
+use Rattle.command_line.specs.internal.Commands.{with_wanted}
 use Rattle.command_line.proofs.arguments.and_all_wanted.Goals as goal
 
 pub loop-argument-preserved : goal.loop-argument-preserved

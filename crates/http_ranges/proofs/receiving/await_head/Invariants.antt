@@ -1,6 +1,6 @@
 -- Nothing is taken.
 use Rattle.std.proofs.Common.{length, ◌-◌, []}
-use Rattle.http_ranges.specs.Passing.{Passes}
+use Rattle.http_ranges.specs.internal.Passing.{Passes}
 use Rattle.http_ranges.specs.declared.limits.TheConstants.{HEAD_LIMIT}
 use Rattle.http_ranges.proofs.receiving.await_head.Given as goal
 

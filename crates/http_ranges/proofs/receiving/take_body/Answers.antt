@@ -1,6 +1,6 @@
 use Rattle.std.proofs.Common.{◌≡◌, ◌+◌, ◌-◌, ℕ, List, arith, length, subst, sym, take}
 use Rattle.std.proofs.lemmas.List.{length-take}
-use Rattle.http_ranges.specs.Passing.{TakesBody}
+use Rattle.http_ranges.specs.internal.Passing.{TakesBody}
 use Rattle.http_ranges.proofs.PassingLemmas.{body-more}
 use Rattle.http_ranges.proofs.receiving.take_body.Goals as goal
 

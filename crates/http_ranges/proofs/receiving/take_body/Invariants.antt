@@ -1,6 +1,6 @@
 -- What isn't left of the body was taken.
 use Rattle.std.proofs.Common.{◌≤◌, ◌-◌}
-use Rattle.http_ranges.specs.Passing.{TakesBody}
+use Rattle.http_ranges.specs.internal.Passing.{TakesBody}
 use Rattle.http_ranges.proofs.receiving.take_body.Given as goal
 
 abbrev pub invariant-loop-left : goal.invariant-loop-left

@@ -1,6 +1,6 @@
 -- Only interim responses were taken.
 use Rattle.std.proofs.Common.{List, ℕ}
-use Rattle.http_ranges.specs.Passing.{Passes}
+use Rattle.http_ranges.specs.internal.Passing.{Passes}
 use Rattle.http_ranges.proofs.receiving.take_head.Given as goal
 
 abbrev pub invariant-loop : goal.invariant-loop

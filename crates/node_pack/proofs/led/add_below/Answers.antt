@@ -1,6 +1,6 @@
 use Rattle.std.proofs.Common.{◌≡◌, ℕ, Bool, List, ap, subst, sym}
 use Rattle.std.specs.Prelude.{OnOk}
-use Rattle.tree_node.specs.Nodes.{Inner, Link, Node, Spells}
+use Rattle.tree_node.specs.Nodes.{Inner, Link, Spells}
 use Rattle.node_pack.specs.internal.Stepping.{AddsLed, below_step, is_first}
 use Rattle.node_pack.proofs.StepLemmas.{inner_is, leaf_is_not}
 use Rattle.node_pack.proofs.led.add_below.Goals as goal

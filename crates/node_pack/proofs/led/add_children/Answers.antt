@@ -5,7 +5,6 @@ use Rattle.tree_node.specs.NodeRefs.{link_of}
 use Rattle.tree_node.specs.Nodes.{Link}
 use Rattle.tree_walk.specs.Spans.{children_placed}
 use Rattle.node_pack.specs.Hints.{IsLedChild}
-use Rattle.node_pack.specs.declared.step.Step.{Step}
 use Rattle.node_pack.specs.internal.Stepping.{below_step}
 use Rattle.node_pack.proofs.StepLemmas.{AddsFirst, adds_all, adds_none, adds_one, adds_other, fails_not}
 use Rattle.node_pack.proofs.led.add_children.Goals.{then-leads+in_ok-push, else-leads}

@@ -3,7 +3,8 @@ use Rattle.osm_check.specs.Telling.{IsProvedIn}
 use Rattle.mirror_reply.specs.Calls.{Call, bytes_received}
 use Rattle.mirror_reply.specs.Replies.{HasReply}
 use Rattle.mirror_reply.proofs.shared.SpelledLemmas.{none_replied, reply-unique}
-use Rattle.osm_fetch.specs.Fetching.{Calls, Explains, Fetching, HasCalled, IsExcused, IsOutside}
+use Rattle.osm_fetch.specs.Fetching.{Calls, Explains, Fetching, IsExcused, IsOutside}
+use Rattle.osm_fetch.specs.internal.Fetched.{HasCalled}
 use Rattle.osm_fetch.specs.declared.not_fetched.NotFetched.TheVariants.{Device}
 use Rattle.osm_fetch.proofs.FetchedLemmas.{called, fetched_at, same_calls, shown_calls, shown_excused, shown_limited, shown_no_device, taken_all, uncalled, unfetched, unfetched_outside, unread}
 use Rattle.osm_fetch.proofs.fetch_command.fetch_text.Goals as goal

@@ -1,9 +1,10 @@
-use Rattle.std.proofs.Common.{List, sym, subst}
+use Rattle.std.proofs.Common.{List, ap, length, sym, subst}
+use Rattle.osm_model.specs.declared.reference.Ref.{Ref}
 use Rattle.tree_walk.specs.Ranges.{Range}
 use Rattle.tree_walk.proofs.shared.WalksGivenLaws.{given_same, given_then}
 use Rattle.osm_keys.specs.Ranges.{AreCellRanges}
-use Rattle.ql_eval.specs.internal.Boxes.{IsCellsAsk, IsFoundIn}
-use Rattle.ql_eval.proofs.BoxLemmas.{box_needs, box_set, needs_box}
+use Rattle.ql_eval.specs.internal.Boxes.{IsCellsAsk, IsFoundIn, IsInRange}
+use Rattle.ql_eval.proofs.BoxLemmas.{box_needs, box_set, cells_size, needs_box}
 use Rattle.ql_eval.proofs.LoopLemmas.{gone_all, gone_next, gone_same, gone_stops}
 use Rattle.ql_eval.proofs.GivenLemmas.{none_given, sorted_given}
 use Rattle.ql_eval.proofs.boxes.find_in_box.Goals as goal
@@ -15,6 +16,7 @@ loop-keys-init g c = record {
   walked = given_same _ _ _ _ _ _ _ c.announce_cells.ensures.used;
   named = none_given _ _ c.new-names.ensures.items;
   answer = λ p is under. rw c.new-names.ensures.items (gone_same p c.deref-keys-items.result.now (IsFoundIn p.objects c.args.area.now) IsCellsAsk c.announce_cells.ensures.used);
+  read = λ p is under. rw c.new-cells.ensures.items (gone_same p c.deref-keys-items.result.now (IsInRange p.objects) IsCellsAsk c.announce_cells.ensures.used);
 }
 
 pub returns-in_err-add_range-clause-answer : goal.returns-in_err-add_range-clause-answer
@@ -22,6 +24,12 @@ returns-in_err-add_range-clause-answer g c = λ p is under.
     gone_stops p c.deref-keys-items.result.now (IsFoundIn p.objects c.args.area.now) IsCellsAsk c.loop-keys.keys-index c.keys-item.result c.loop-keys-test.true c.keys-item.is
     _ c.from_residual-in_err-add_range.ensures.1 (box_needs p is c.args.area.now c.deref-keys-items.result.now (subst (λ (list : List Range). AreCellRanges c.args.area.now list) (sym c.deref-keys-items.ensures.value) c.in_ok-ranges.ensures)) c.add_range.ensures.grows
     (c.loop-keys.invariant.answer p is under) (c.in_err-add_range.ensures.answer p is under)
+
+pub returns-in_err-add_range-clause-read : goal.returns-in_err-add_range-clause-read
+returns-in_err-add_range-clause-read g c = λ p is under.
+    gone_stops p c.deref-keys-items.result.now (IsInRange p.objects) IsCellsAsk c.loop-keys.keys-index c.keys-item.result c.loop-keys-test.true c.keys-item.is
+    _ c.from_residual-in_err-add_range.ensures.1 (box_needs p is c.args.area.now c.deref-keys-items.result.now (subst (λ (list : List Range). AreCellRanges c.args.area.now list) (sym c.deref-keys-items.ensures.value) c.in_ok-ranges.ensures)) c.add_range.ensures.grows
+    (c.loop-keys.invariant.read p is under) (c.in_err-add_range.ensures.read p is under)
 
 pub loop-keys-preserved : goal.loop-keys-preserved
 loop-keys-preserved g c = record {
@@ -32,6 +40,9 @@ loop-keys-preserved g c = record {
   answer = λ p is under.
       gone_next p c.deref-keys-items.result.now (IsFoundIn p.objects c.args.area.now) IsCellsAsk c.loop-keys.keys-index c.keys-item.result c.loop-keys-test.true c.keys-item.is
       c.add_range.ensures.grows (c.loop-keys.invariant.answer p is under) (c.in_ok-add_range.ensures.answer p is under);
+  read = λ p is under.
+      gone_next p c.deref-keys-items.result.now (IsInRange p.objects) IsCellsAsk c.loop-keys.keys-index c.keys-item.result c.loop-keys-test.true c.keys-item.is
+      c.add_range.ensures.grows (c.loop-keys.invariant.read p is under) (c.in_ok-add_range.ensures.read p is under);
 }
 
 pub returns-clause-answer : goal.returns-clause-answer
@@ -41,6 +52,15 @@ returns-clause-answer g c = λ p is under.
     gone_all p ranges (IsFoundIn p.objects c.args.area.now) IsCellsAsk c.loop-keys.keys-index c.loop-keys-test.false
     (box_needs p is c.args.area.now ranges are) (needs_box p is c.args.area.now ranges are) (λ so. box_set p is c.args.area.now ranges _ _ are so c.from_refs.ensures)
     (c.loop-keys.invariant.answer p is under)
+
+pub returns-clause-read : goal.returns-clause-read
+returns-clause-read g c = λ p is under.
+    let ranges = c.deref-keys-items.result.now in
+    let are = subst (λ (list : List Range). AreCellRanges c.args.area.now list) (sym c.deref-keys-items.ensures.value) c.in_ok-ranges.ensures in
+    gone_all p ranges (IsInRange p.objects) IsCellsAsk c.loop-keys.keys-index c.loop-keys-test.false
+    (box_needs p is c.args.area.now ranges are) (needs_box p is c.args.area.now ranges are)
+    (λ so. cells_size p is c.args.area.now ranges c.loop-keys.cells.items c.from_refs-cells.result _ are so c.from_refs-cells.ensures (ap (λ (l : List Ref). length l) c.as_slice-read.ensures.value))
+    (c.loop-keys.invariant.read p is under)
 
 pub returns-clause-named : goal.returns-clause-named
 returns-clause-named g c = sorted_given c.loop-keys.names.items c.from_refs.result c.from_refs.ensures c.loop-keys.invariant.named

@@ -9,7 +9,7 @@ use Rattle.ql_eval.specs.Absences.{IsSound}
 use Rattle.ql_eval.specs.internal.Objects.{NeverAbsent}
 use Rattle.osm_keys.specs.Publications.{IsPublication, Publication}
 use Rattle.ql_eval.specs.Openings.{IsUnder}
-use Rattle.ql_eval.specs.internal.Boxes.{IsCellsAsk, IsFoundIn}
+use Rattle.ql_eval.specs.internal.Boxes.{IsCellsAsk, IsFoundIn, IsInRange}
 use Rattle.ql_eval.proofs.LoopLemmas.{HasGone}
 use Rattle.ql_eval.proofs.boxes.find_in_box.Given as goal
 
@@ -21,4 +21,6 @@ invariant-loop-keys g l = record {
   named : AllGiven (IsNamedIn (g.S.Shelf.used l.shelf) l.manifest) l.names.items;
   answer : (p : Publication) → IsPublication p → IsUnder p l.manifest
       → HasGone p l.keys-items (IsFoundIn p.objects l.area) IsCellsAsk l.keys-index [] l.names.items (uses (g.S.Shelf.holds l.shelf) (g.S.Shelf.used l.fn.shelf) (g.S.Shelf.used l.shelf));
+  read : (p : Publication) → IsPublication p → IsUnder p l.manifest
+      → HasGone p l.keys-items (IsInRange p.objects) IsCellsAsk l.keys-index [] l.cells.items (uses (g.S.Shelf.holds l.shelf) (g.S.Shelf.used l.fn.shelf) (g.S.Shelf.used l.shelf));
 }

@@ -102,10 +102,14 @@ pub returns-in-KeyIs-clause-spent : goal.returns-in-KeyIs-clause-spent
 returns-in-KeyIs-clause-spent g c = on_ok_as c.names.result (λ walked p is under there allowed clear. subst (λ (f : Filter). IsSpent (WorkOfBase p.objects (Some f)) c.args.meter.now.spent c.args.meter.now.spent) (sym (ap filter_of c.in-KeyIs.is)) (nothing_spent _)) c.names.ensures.walked
 
 pub returns-in-Within-clause-bounded : goal.returns-in-Within-clause-bounded
-returns-in-Within-clause-bounded g c = λ p is under there allowed clear. still _ _
+returns-in-Within-clause-bounded g c = λ p is under there allowed clear.
+    let filter : filter_of c.args.filter.now ≡ Within c.deref.result.now = ap filter_of c.in-Within.is ∙ ap (λ (a : ExactBox). Within a) (sym c.deref.ensures) in
+    subst (λ (f : Filter). IsBounded (WorkOfBase p.objects (Some f)) c.args.meter.now.spent c.in_box.new.meter.spent) (sym filter) (c.in_box.ensures.bounded p is under clear)
 
 pub returns-in-Within-clause-spent : goal.returns-in-Within-clause-spent
-returns-in-Within-clause-spent g c = on_ok_as c.in_box.result (λ walked p is under there allowed clear. subst (λ (f : Filter). IsSpent (WorkOfBase p.objects (Some f)) c.args.meter.now.spent c.args.meter.now.spent) (sym (ap filter_of c.in-Within.is)) (nothing_spent _)) c.in_box.ensures.walked
+returns-in-Within-clause-spent g c = on_ok_as c.in_box.result (λ spent p is under there allowed clear.
+    let filter : filter_of c.args.filter.now ≡ Within c.deref.result.now = ap filter_of c.in-Within.is ∙ ap (λ (a : ExactBox). Within a) (sym c.deref.ensures) in
+    subst (λ (f : Filter). IsSpent (WorkOfBase p.objects (Some f)) c.args.meter.now.spent c.in_box.new.meter.spent) (sym filter) (spent p is under clear)) c.in_box.ensures.spent
 
 pub returns-in_err-picked-in-InSet-clause-bounded : goal.returns-in_err-picked-in-InSet-clause-bounded
 returns-in_err-picked-in-InSet-clause-bounded g c = λ p is under there allowed clear. still _ _

@@ -13,9 +13,11 @@ use Rattle.ql_eval.proofs.StepLemmas.{then_same}
 use Rattle.ql_eval.proofs.GivenLemmas.{sets_later}
 use Rattle.osm_model.specs.declared.reference.Ref.{Ref}
 use Rattle.ql_eval.specs.Work.{WorkOfBase, step_cost}
+use Rattle.ql_eval.specs.internal.Affording.{WorkOfFinding}
+use Rattle.ql_eval.proofs.AffordingLemmas.{finding_bounded}
 use Rattle.ql_eval.specs.internal.Metering.{IsBounded, IsCounted, IsSpent}
 use Rattle.ref_sets.proofs.shared.Results.{on_ok_as}
-use Rattle.ql_eval.proofs.MeterLemmas.{both_bounded, both_spent, clear_before, first_bounded, found_well, set_bounded, set_spent, steps_bounded, steps_spent}
+use Rattle.ql_eval.proofs.MeterLemmas.{both_bounded, both_spent, clear_before, found_well, set_bounded, set_spent, steps_bounded, steps_spent}
 use Rattle.std.proofs.lemmas.List.{length-map}
 use Rattle.ql_syntax.specs.StatementViews.{filter_of}
 use Rattle.ql_syntax.specs.declared.filter.Filter as code
@@ -66,7 +68,7 @@ pub returns-in_err-found-clause-bounded : goal.returns-in_err-found-clause-bound
 returns-in_err-found-clause-bounded g c = λ p is under there lawful clear.
     let plan = c.args.plan.now in
     let allowed = subst (λ (b : Option Filter). ForSome b (Allows c.args.pick)) (sym c.base.ensures) (base_lawful c.args.pick plan.before plan.base plan.after lawful) in
-    first_bounded _ _ (subst (λ (b : Option Filter). IsBounded (WorkOfBase p.objects b) c.args.meter.now.spent c.find_candidates.new.meter.spent) c.base.ensures (c.find_candidates.ensures.bounded p is under there allowed clear))
+    finding_bounded p (lists_of c.args.sets.now.named.items) c.args.pick plan _ _ (subst (λ (b : Option Filter). IsBounded (WorkOfFinding p (lists_of c.args.sets.now.named.items) c.args.pick b) c.args.meter.now.spent c.find_candidates.new.meter.spent) c.base.ensures (c.find_candidates.ensures.bounded p is under there allowed clear))
 
 pub returns-in_err-charge_each-clause-bounded : goal.returns-in_err-charge_each-clause-bounded
 returns-in_err-charge_each-clause-bounded g c = λ p is under there lawful clear.
@@ -80,7 +82,7 @@ returns-in_err-charge_each-clause-bounded g c = λ p is under there lawful clear
     let all : length c.as_slice.result.now * (1 + length c.before-front.result.now + length c.after-back.result.now) ≡ length found * (1 + length (plan.before ++ plan.after)) =
     tested c.before-front.result.now c.after-back.result.now plan.before plan.after c.as_slice.result.now found c.as_slice.ensures.value c.before-front.ensures c.after-back.ensures in
     let counted = subst (λ (n : ℕ). IsCounted c.find_candidates.new.meter.spent c.charge_each.new.self.spent (step_cost * n)) all c.charge_each.ensures in
-    let based = subst (λ (b : Option Filter). IsBounded (WorkOfBase p.objects b) c.args.meter.now.spent c.find_candidates.new.meter.spent) c.base.ensures (c.find_candidates.ensures.bounded p is under there allowed clear) in
+    let based = subst (λ (b : Option Filter). IsBounded (WorkOfBase p.objects b) c.args.meter.now.spent c.find_candidates.new.meter.spent) c.base.ensures (c.in_ok-found.ensures.read p is under there allowed clear) in
     both_bounded _ _ _ based (set_bounded _ _ found are (steps_bounded (length found * (1 + length (plan.before ++ plan.after))) _ _ counted))
 
 pub returns-clause-bounded : goal.returns-clause-bounded
@@ -95,7 +97,7 @@ returns-clause-bounded g c = λ p is under there lawful clear.
     let all : length c.as_slice.result.now * (1 + length c.before-front.result.now + length c.after-back.result.now) ≡ length found * (1 + length (plan.before ++ plan.after)) =
     tested c.before-front.result.now c.after-back.result.now plan.before plan.after c.as_slice.result.now found c.as_slice.ensures.value c.before-front.ensures c.after-back.ensures in
     let counted = subst (λ (n : ℕ). IsCounted c.find_candidates.new.meter.spent c.charge_each.new.self.spent (step_cost * n)) all c.charge_each.ensures in
-    let based = subst (λ (b : Option Filter). IsBounded (WorkOfBase p.objects b) c.args.meter.now.spent c.find_candidates.new.meter.spent) c.base.ensures (c.find_candidates.ensures.bounded p is under there allowed (clear_before (λ x. g.met.W.Source.grows _ _ x c.apply_filters.ensures.later) clear)) in
+    let based = subst (λ (b : Option Filter). IsBounded (WorkOfBase p.objects b) c.args.meter.now.spent c.find_candidates.new.meter.spent) c.base.ensures (c.in_ok-found.ensures.read p is under there allowed (clear_before (λ x. g.met.W.Source.grows _ _ x c.apply_filters.ensures.later) clear)) in
     both_bounded _ _ _ based (set_bounded _ _ found are (steps_bounded (length found * (1 + length (plan.before ++ plan.after))) _ _ counted))
 
 pub returns-clause-spent : goal.returns-clause-spent

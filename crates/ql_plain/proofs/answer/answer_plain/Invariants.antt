@@ -1,7 +1,7 @@
 use Rattle.std.proofs.Common.{take}
 use Rattle.ql_syntax.specs.StatementViews.{statements_of}
 use Rattle.ref_sets.specs.NamedSets.{nothing_named, lists_of}
-use Rattle.ql_meaning.specs.Runs.{PrintsTo}
+use Rattle.ql_meaning.proofs.shared.Answering.{PrintsTo}
 use Rattle.ql_plain.proofs.answer.answer_plain.Given as goal
 
 abbrev pub invariant-loop-statement : goal.invariant-loop-statement

@@ -1,6 +1,7 @@
 use Rattle.std.proofs.Common.{◌∙◌, ap, sym, refl, subst, List, ℕ, drop}
 use Rattle.external_sort.specs.Runs.{run_at}
-use Rattle.level_files.specs.Levels.{IsNextLen, LevelNodes}
+use Rattle.level_files.specs.Levels.{LevelNodes}
+use Rattle.level_files.specs.internal.Given.{IsNextLen}
 use Rattle.level_files.specs.internal.Rows.{nodes_of}
 use Rattle.level_files.proofs.ReadingLemmas.{all_rows_there, at_measured, at_row, goes_on, measured, row_run_there}
 use Rattle.level_files.proofs.FaultLemmas.{by_all, fault_told, no_fault, on_none}

@@ -1,4 +1,4 @@
-use Rattle.std.proofs.Common.{List, ◌++◌, ◌∷◌, [], arith, ap, inl, ◌∙◌}
+use Rattle.std.proofs.Common.{◌++◌, ◌∷◌, [], arith, ap, inl, ◌∙◌}
 use Rattle.std.proofs.lemmas.List.{map-append}
 use Rattle.node_pack.specs.Hints.{Announcement, hint_of}
 use Rattle.node_pack.specs.internal.Announcing.{announcements, hints_in}

@@ -9,6 +9,8 @@ returns-clause-over g c = λ root key nodes over is.
     record {
       is_read = c.read_record.ensures.stays (pack root nodes) over.is_read;
       is_pack = over.is_pack;
+      rooted = over.rooted;
+      manifest = over.manifest;
       size = over.size;
       trues = trues_after nodes key c.args.at_most c.as_slice.result.now c.args.self.now.places c.learn.new.places read over.trues c.learn.ensures.long c.learn.ensures.trues;
     }

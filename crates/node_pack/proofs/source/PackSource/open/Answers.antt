@@ -1,9 +1,9 @@
-use Rattle.std.proofs.Common.{List, ℕ, Ok, Err, inr, refl, subst, ◌∙◌}
+use Rattle.std.proofs.Common.{List, ℕ, Ok, Err, ap, inr, refl, subst, sym, ◌∙◌}
 use Rattle.node_pack.specs.Known.{IsKnown}
 use Rattle.node_pack.specs.Packs.{pack, place_in}
 use Rattle.node_pack.specs.Sources.{IsOpenFault}
 use Rattle.node_pack.proofs.HeaderLemmas.{front_read, header_read}
-use Rattle.node_pack.proofs.PackLemmas.{fault_is, has_header, none_false, pack_long}
+use Rattle.node_pack.proofs.PackLemmas.{fault_is, has_header, pack_long}
 use Rattle.node_pack.proofs.source.PackSource.open.Goals as goal
 
 pub returns-in_err-header-clause-refused : goal.returns-in_err-header-clause-refused
@@ -25,10 +25,12 @@ returns-clause-over g c = λ root nodes reads is.
       record {
         is_read = c.read_at.ensures.stays bytes (c.size.ensures.stays bytes reads);
         is_pack = is;
+        rooted = has.same;
+        manifest = ap (place_in nodes) (sym has.same) ∙ has.is;
         size = size ∙ pack_long root nodes is.wide;
-        trues = c.remember.ensures.trues (place_in nodes) (none_false (place_in nodes) c.new-places.result c.new-places.ensures.empty) has.is;
+        trues = c.in_ok-places.ensures.trues (place_in nodes) has.is;
       },
-      subst (λ (key : List ℕ). IsKnown c.remember.new.places key) has.same (c.in_ok-remember.ensures.known has.near),
+      subst (λ (key : List ℕ). IsKnown c.in_ok-places.places key) has.same (c.in_ok-places.ensures.known has.near),
     )
 
 pub returns-clause-header : goal.returns-clause-header

@@ -1,0 +1,31 @@
+use Rattle.std.proofs.Common.{refl}
+use Rattle.std.proofs.lemmas.Result.{IfErr-weaker}
+use Rattle.osm_keys.specs.Manifests.{top_among}
+use Rattle.ql_eval.proofs.AbsenceLemmas.{never_sound, read_later}
+use Rattle.ql_eval.proofs.GivenLemmas.{given_later}
+use Rattle.ql_eval.proofs.KnownLemmas.{absent_later, remembers_later}
+use Rattle.ql_eval.proofs.RememberLemmas.{all_recalled_later}
+use Rattle.ql_eval.proofs.shelf_source.ShelfSourceSource.count_in.Goals as goal
+
+pub returns-clause-later : goal.returns-clause-later
+returns-clause-later g c = (
+  refl,
+  refl,
+  c.count_in_box.ensures.stays,
+  c.count_in_box.ensures.grows,
+  (λ p under known. remembers_later p _ _ c.args.self.now.objects.now c.count_in_box.ensures.grows known),
+  (λ r object known. known),
+  (λ absent. absent_later _ _ c.args.self.now.manifest c.args.self.now.objects.now c.count_in_box.ensures.grows absent),
+  (λ r given. given_later _ _ c.args.self.now.manifest c.args.self.now.objects.now c.args.self.now.objects.now c.count_in_box.ensures.grows (λ s o known. known) r given),
+  (λ p under known recalled. all_recalled_later p _ _ c.args.self.now.memo.now.remembered.items c.count_in_box.ensures.grows recalled),
+  (λ r is. is),
+  (λ given r is. given_later _ _ c.args.self.now.manifest c.args.self.now.objects.now c.args.self.now.objects.now c.count_in_box.ensures.grows (λ s o known. known) r (given r is)),
+  refl,
+  (λ read. read_later _ _ c.args.self.now.manifest c.args.self.now.objects.now c.count_in_box.ensures.grows read),
+)
+
+pub returns-clause-told : goal.returns-clause-told
+returns-clause-told g c = IfErr-weaker c.count_in_box.result _ _ (λ fault told absent kept. told) c.count_in_box.ensures.told
+
+pub returns-clause-walked : goal.returns-clause-walked
+returns-clause-walked g c = never_sound c.count_in_box.result (top_among c.args.self.now.manifest.tops) _ _ _ _ _ _ _ _ c.count_in_box.ensures.walked
