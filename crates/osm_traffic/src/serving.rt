@@ -29,7 +29,8 @@ const PIECE_LIMIT: usize = 8192;
 /// Serves this number of connections on the desk, up to 64 at a time, numbered from 0 as they come. Each is read only
 /// where it has nothing coming any more, a piece at a time, and gets the responses to the requests that the piece
 /// completes. The lookout is asked at each connection that comes, before its bytes are read, and whenever the traffic says
-/// that it is time. A connection that ends badly is told in one line of `errors` (`G1` to `G3`), and leaves the others.
+/// that it is time. A connection that ends badly is told in `errors`, and leaves the others: in one line (`G1` to `G3`), or in
+/// two, `G3` and then `G2`, where memory runs out for a request and what is to be answered then can't be written.
 ///
 /// A query that passes the budget, where there is one, is answered with 503 `too much work`, and its connection goes on
 /// as after an answer. What is counted says `ql_eval::evaluate_within`. Where the nodes of the desk's mirror are read from a

@@ -54,7 +54,8 @@ pub struct Report {
 /// Writes the answer to a query into a sink, from the nodes under a root.
 ///
 /// Each entry that a walk gives is read, whether the answer needs it or not. Each object is looked up and its line read
-/// once, however often the query asks for it: the object, or that it isn't there, is kept until the query ends.
+/// once, however often the query asks for it: the object, or that it isn't there, is kept until the query ends. Only what a
+/// scan of a kind has read isn't kept: where the query needs its line later, it is looked up.
 ///
 /// A refusal leaves the text of the sink as it was. The nodes that were fetched until then stay used.
 pub fn evaluate<'a, S: Shelf<'a>, T: Sink>(
