@@ -11,7 +11,10 @@ PLACES = {
     "example": (example, ["crates/node_pack/src/tests.rt"]),
     "four objects": (
         four_objects,
-        ["crates/outside_answer_tests/src/packs.rt", "crates/osm_packs/src/tests/four_objects.rt"],
+        [
+            "crates/outside_answer_tests/src/packs.rt", "crates/osm_packs/src/tests/four_objects.rt",
+            "crates/osm_query_web/src/tests/four_objects.rt",
+        ],
     ),
 }
 

@@ -1,0 +1,7 @@
+pub mod SpanLemmas
+pub mod TableLemmas
+pub mod PieceLemmas
+pub mod WantedLemmas
+pub mod ExplainLemmas
+pub mod OutcomeLemmas
+pub mod HandedLemmas

@@ -1,0 +1,105 @@
+//! Answers from pieces of a pack.
+
+ghost use Rattle.std.specs.Prelude.{◌≡◌, IfOk, IfSome, List};
+ghost use Rattle.tree_node.specs.Digests.{digest as digest_word};
+ghost use Rattle.osm_keys.specs.Manifests.{manifest_bytes};
+ghost use Rattle.osm_keys.specs.Publications.{IsPublication, Publication, root_of};
+ghost use Rattle.osm_keys.specs.declared.manifest.Manifest.{Manifest};
+ghost use Rattle.osm_query_web.specs.Answers.{IsAnswerOf, IsTableOfWanted};
+ghost use Rattle.osm_query_web.specs.declared.span.Span.{Span};
+ghost use Rattle.osm_query_web.specs.internal.Outcomes.{ComesOf, IfDocument, IfMissing, IfRefused, IsAfterRead, IsExplained, ListsWanted};
+ghost use Rattle.osm_query_web.specs.internal.Reading.{AreOf, ArePiecesOf};
+
+use crate::missing::{table_of, wanted_of};
+use crate::outcome::Outcome;
+use crate::pieces::Pieces;
+use crate::reader::PieceReader;
+use crate::span::Span;
+use node_pack::PackFault;
+use osm_forms::Form;
+use osm_packs::NotAnswered;
+use outside_answer::Limits;
+use outside_shelf::Refused;
+use std::alloc::{AllocError, Global};
+use std::cell::Cell;
+use tree_node::Digest;
+
+/// Finds the answer to a query in the pieces of a pack, as the command `query` does, and where they don't suffice, what else of
+/// the pack is needed, as far as that is known. The query may need so many bytes of nodes.
+pub(crate) fn find_answer(
+    alloc: Global,
+    form: Form,
+    root: &Digest,
+    query: &[u8],
+    at_most: u64,
+    pieces: &Pieces<'_>,
+) -> Outcome
+    ensures right { (spans : List Span) (p : Publication) → AreOf spans pieces.now
+        → IsPublication p → root.now.0 ≡ root_of p
+        → IfDocument result (IsAnswerOf p form query.now) }
+    ensures rooted { (spans : List Span) → AreOf spans pieces.now → IfDocument result
+        (λ _. (found : Manifest) × (digest_word (manifest_bytes found) ≡ root.now.0)) }
+    ensures missing { (spans : List Span) → AreOf spans pieces.now
+        → IfMissing result (IsTableOfWanted pieces.now.size spans query.now) }
+    ensures refused { (spans : List Span) → AreOf spans pieces.now → IfRefused result
+        (IsExplained (ArePiecesOf pieces.now) query.now root.now.0) }
+{
+    let missed = Cell::new(Vec::new(alloc));
+    let reader = PieceReader {
+        alloc,
+        pieces: &*pieces,
+        missed: &missed,
+    };
+    let limits = Limits {
+        bytes: Some(at_most),
+        work: None,
+    };
+    let mut document = Vec::new(alloc);
+    match osm_packs::query(alloc, form, root, query, limits, reader, &mut document) {
+        Ok(()) => Outcome::Document(document),
+        Err(fault) => outcome_of(alloc, fault, pieces, missed.into_inner().as_slice()),
+    }
+}
+
+/// What comes of a fault, where these spans were noted.
+fn outcome_of(alloc: Global, fault: NotAnswered, pieces: &Pieces<'_>, noted: &[Span]) -> Outcome
+    ensures { (spans : List Span) → AreOf spans pieces.now
+        → ComesOf pieces.now.size spans fault result }
+{
+    match fault {
+        NotAnswered::Memory | NotAnswered::Device => Outcome::NoMemory,
+        NotAnswered::Pack(PackFault::Device) | NotAnswered::Node(Refused::Device) => after_read(
+            alloc, fault, pieces, noted,
+        ),
+        _ => Outcome::Refused(fault),
+    }
+}
+
+/// What comes of a read that failed.
+fn after_read(alloc: Global, fault: NotAnswered, pieces: &Pieces<'_>, noted: &[Span]) -> Outcome
+    ensures { (spans : List Span) → AreOf spans pieces.now
+        → IsAfterRead pieces.now.size spans fault result }
+{
+    match list_missing(alloc, pieces, noted) {
+        Ok(Some(table)) => Outcome::Missing(table),
+        Ok(None) => Outcome::Refused(fault),
+        Err(_) => Outcome::NoMemory,
+    }
+}
+
+/// The table of those of the noted spans that are to be fetched; none where there are none.
+fn list_missing(
+    alloc: Global,
+    pieces: &Pieces<'_>,
+    noted: &[Span],
+) -> Result<Option<Vec<u8>>, AllocError>
+    ensures { (spans : List Span) → AreOf spans pieces.now
+        → IfOk result (λ listed. IfSome listed
+        (λ table. ListsWanted pieces.now.size spans table.items)) }
+{
+    let wanted = wanted_of(alloc, pieces, noted)?;
+    if wanted.is_empty() {
+        return Ok(None);
+    }
+    Ok(Some(table_of(alloc, &wanted)?))
+}
