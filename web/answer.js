@@ -25,14 +25,11 @@ export class Answer {
   #byKey = new Map();
   #shown = 0;
   #bytes = new Uint8Array(0);
-  #proof = new Uint8Array(0);
+  #proof = null;
   #query = new Uint8Array(0);
-  #root = new Uint8Array(0);
-  #tell;
+  #tell = null;
 
-  /** `tell` makes documents of what is shown: that of a form, from a query, a root and a proof (see Checker). */
-  constructor(tell) {
-    this.#tell = tell;
+  constructor() {
     this.#map = new AnswerMap(byId("canvas"), {
       onChoose: (object) => this.choose(object === null ? null : keyOf(object)),
       onPoint: (degrees) => (byId("pointed").textContent = degrees === null ? "" : placeText(degrees)),
@@ -40,9 +37,14 @@ export class Answer {
     this.#listen();
   }
 
-  /** Shows an answer, which was checked under this root: all are bytes. Gives how many objects it has. */
-  show(query, root, answer, proof) {
-    [this.#query, this.#root, this.#bytes, this.#proof] = [query, root, answer, proof];
+  /**
+   * Shows an answer that was checked. It and its query are bytes, and so is its proof, where there is one. `tell` makes documents
+   * of it: from a form, and the number of bytes that the document may have, a promise of `{status, document}`. Gives how many
+   * objects the answer has.
+   */
+  show({ query, answer, proof = null, tell }) {
+    [this.#query, this.#bytes, this.#proof, this.#tell] = [query, answer, proof, tell];
+    byId("as-proof").hidden = proof === null;
     const text = new TextDecoder().decode(answer);
     this.#objects = merged(readOpl(text));
     this.#byKey = new Map(this.#objects.map((object) => [keyOf(object), object]));
@@ -62,7 +64,8 @@ export class Answer {
   /** Shows no answer, and forgets the one that was shown. */
   clear() {
     byId("answer").hidden = true;
-    [this.#objects, this.#byKey, this.#bytes, this.#proof] = [[], new Map(), new Uint8Array(0), new Uint8Array(0)];
+    [this.#objects, this.#byKey, this.#bytes] = [[], new Map(), new Uint8Array(0)];
+    [this.#proof, this.#tell] = [null, null];
     byId("rows").replaceChildren();
     byId("opl").textContent = "";
     byId("download-fault").textContent = "";
@@ -117,14 +120,13 @@ export class Answer {
     byId("downloads").append(element("span", { className: "row" }, element("small", {}, text), ...buttons));
   }
 
-  /** Has the checker make the document of the answer that is shown, and hands it to the user. */
+  /** Has the document of the answer that is shown made, and hands it to the user. */
   async #downloadTold(form) {
     const [type, times] = DOCUMENTS[form];
-    const proof = this.#proof;
+    const tell = this.#tell;
     try {
-      const guess = times * this.#bytes.length + ROUND;
-      const { status, document } = await this.#tell(form, this.#query, this.#root, proof, guess);
-      if (proof !== this.#proof) return;
+      const { status, document } = await tell(form, times * this.#bytes.length + ROUND);
+      if (tell !== this.#tell) return;
       if (status === "yes") download(`answer.${form}`, type, document);
       byId("download-fault").textContent = status === "yes" ? "" : SAY.notTold(status);
     } catch (error) {

@@ -1,48 +1,23 @@
-// The proved checker, in a worker of its own: whoever asks gets a promise.
+// The proved checker: whether an answer is right, and the documents of right answers.
 
-import { SAY } from "./strings.js";
+import { Library, compiled } from "./library.js";
 
-const MODULES = ["out/osm_check.wasm", "out/osm_check_32.wasm"].map((path) => new URL(path, import.meta.url));
+export { NotJudged } from "./library.js";
 
 /** The forms in which an answer is told, in the order of their numbers (crates/osm_check_web/src/documents.rt). */
 export const FORMS = ["opl", "json", "xml"];
 
-/** A verdict couldn't be made: the text says why. */
-export class NotJudged extends Error {}
-
-/**
- * Compiles the checker. The module with memory of 64 bits comes first, since it is made by fewer tools; where the
- * browser can't run that, the one that was lowered to 32 bits is taken.
- */
-async function compiled() {
-  let fault = SAY.checkerMissing;
-  for (const url of MODULES) {
-    try {
-      const response = await fetch(url);
-      if (!response.ok) continue;
-      return await WebAssembly.compile(await response.arrayBuffer());
-    } catch (error) {
-      fault = error.message;
-    }
-  }
-  throw new NotJudged(SAY.noChecker(fault));
-}
-
 export class Checker {
-  #module = null;
-  #worker = null;
-  #waiting = new Map();
-  #next = 0;
+  #library;
 
   /** Begins to load the checker, unless a compiled one is given; a fault is told by the first check. */
-  constructor(module = compiled()) {
-    this.#module = Promise.resolve(module);
-    this.#module.catch(() => {});
+  constructor(module = compiled("osm_check")) {
+    this.#library = new Library(module, "check_worker.js");
   }
 
   /** Ends when the checker is there. */
   ready() {
-    return this.#module;
+    return this.#library.ready();
   }
 
   /**
@@ -50,7 +25,7 @@ export class Checker {
    * milliseconds}`: status is "yes", "no", "no memory" or "bad root". The bytes are copied, so they stay the caller's.
    */
   check(query, root, answer, proof) {
-    return this.#ask({ job: "check", query, root, answer, proof });
+    return this.#library.ask({ job: "check", query, root, answer, proof });
   }
 
   /**
@@ -59,7 +34,7 @@ export class Checker {
    * bytes it may have; where it has more, it is made twice.
    */
   tell(form, query, root, proof, guess) {
-    return this.#ask({ job: "tell", form: FORMS.indexOf(form), query, root, proof, guess });
+    return this.#library.ask({ job: "tell", form: FORMS.indexOf(form), query, root, proof, guess });
   }
 
   /** The fault of a query as `{cause, place}`, or null where it reads. The checker looks at the query before anything else. */
@@ -69,42 +44,8 @@ export class Checker {
     return verdict.status === "no" && verdict.reason === 1 ? { cause: verdict.cause, place: verdict.place } : null;
   }
 
-  async #ask(message) {
-    const module = await this.#module;
-    const worker = this.#started(module);
-    const number = this.#next++;
-    return new Promise((resolve, reject) => {
-      this.#waiting.set(number, { resolve, reject });
-      worker.postMessage({ ...message, number });
-    });
-  }
-
   /** Gives up all checks that are under way. */
   stop() {
-    this.#end(new NotJudged(SAY.stopped));
-  }
-
-  #started(module) {
-    if (this.#worker === null) {
-      this.#worker = new Worker(new URL("check_worker.js", import.meta.url), { type: "module" });
-      this.#worker.postMessage({ module });
-      this.#worker.onmessage = ({ data }) => this.#settle(data);
-      this.#worker.onerror = (event) => this.#end(new NotJudged(SAY.crashed(event.message ?? "worker")));
-    }
-    return this.#worker;
-  }
-
-  #settle({ number, result, fault }) {
-    const waiting = this.#waiting.get(number);
-    this.#waiting.delete(number);
-    if (fault !== undefined) waiting?.reject(new NotJudged(SAY.crashed(fault)));
-    else waiting?.resolve(result);
-  }
-
-  #end(error) {
-    this.#worker?.terminate();
-    this.#worker = null;
-    for (const { reject } of this.#waiting.values()) reject(error);
-    this.#waiting.clear();
+    this.#library.stop();
   }
 }

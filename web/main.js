@@ -1,4 +1,4 @@
-// The page: asks a mirror, has the answer checked, and shows it only after a yes.
+// The page: asks a mirror, has the answer checked, and shows it only after a yes; or finds the answer in a pack by itself.
 
 import { Answer } from "./answer.js";
 import { Checker, NotJudged } from "./checker.js";
@@ -6,8 +6,9 @@ import { byId, element, writeTexts } from "./dom.js";
 import { Editor, withNodes } from "./editor.js";
 import { NotUsable, toldApart } from "./files.js";
 import * as kept from "./kept.js";
-import { NotAnswered, ask, mirrorAddress } from "./mirror.js";
-import { EXAMPLES, SAY, TEXTS, THEMES, VERDICT_CODES } from "./strings.js";
+import { NotAnswered, ask, mirrorAddress, refuseMixed } from "./mirror.js";
+import { Packs, packAddress } from "./packs.js";
+import { EXAMPLES, PACK_REASONS, SAY, TEXTS, THEMES, VERDICT_CODES } from "./strings.js";
 
 const PAUSE = 250; // milliseconds without a key, before the query is looked at
 
@@ -15,7 +16,8 @@ writeTexts();
 
 const checker = new Checker();
 const editor = new Editor(byId("query"), byId("marks"), byId("fault"));
-const answer = new Answer((...words) => checker.tell(...words));
+const packs = new Packs();
+const answer = new Answer();
 let asking = null; // the AbortController of what is under way
 
 // ---- the verdict ----
@@ -64,10 +66,48 @@ function noRoot() {
   byId("manage-roots").focus();
 }
 
-async function askMirror() {
+/** Asks the mirror, or the pack, whose address is given. */
+async function askPlace() {
   const digits = byId("root").value;
-  const mirror = mirrorAddress(byId("mirror").value);
   if (digits === "") return noRoot();
+  const pack = packAddress(byId("mirror").value);
+  await (pack === null ? askMirror(digits) : askPack(digits, pack));
+}
+
+/** Finds the answer in a pack. What is shown is the document that the proved library has made from nodes under the root. */
+async function askPack(digits, pack) {
+  const query = editor.query;
+  const bytes = new TextEncoder().encode(query);
+  const root = kept.rootBytes(digits);
+  await run(async (signal) => {
+    refuseMixed(pack);
+    tell("wait", SAY.asking(new URL(pack).host));
+    const onNews = ({ requests, received }) => (byId("details").textContent = SAY.reading(requests, received));
+    const found = await packs.answer(pack, bytes, root, "opl", { signal, onNews });
+    if (signal.aborted) return;
+    if (found.status === "yes") {
+      tell("yes", SAY.foundHere(digits, found.milliseconds));
+      const tellIn = (form, guess) => packs.answer(pack, bytes, root, form, { guess });
+      const objects = answer.show({ query: bytes, answer: found.document, tell: tellIn });
+      byId("details").textContent = SAY.found(objects, found.document.length, found);
+    } else if (found.status === "no") {
+      tellNotFound(found);
+    } else {
+      tell("fault", SAY.noMemory);
+    }
+    keepAsked(query, pack);
+  });
+}
+
+function tellNotFound({ reason, cause, place }) {
+  const [meaning, advice] = PACK_REASONS[reason];
+  const state = reason === 1 ? "fault" : "no";
+  tell(state, reason === 1 ? SAY.refused : SAY.notFound(reason === 11 ? `E${cause}, ${meaning}` : meaning), advice);
+  if (reason === 1) showRefusal(`Q${cause} byte ${place}`);
+}
+
+async function askMirror(digits) {
+  const mirror = mirrorAddress(byId("mirror").value);
   if (mirror === null) {
     tell("fault", SAY.badMirror);
     return byId("mirror").focus();
@@ -92,7 +132,8 @@ async function judge(signal, { query, bytes, digits, mirror = "", root = null, a
   if (signal.aborted) return;
   if (verdict.status === "yes") {
     tell("yes", SAY.yes(digits, verdict.milliseconds, proof.length));
-    const objects = answer.show(bytes, yours, opl, proof);
+    const tellIn = (form, guess) => checker.tell(form, bytes, yours, proof, guess);
+    const objects = answer.show({ query: bytes, answer: opl, proof, tell: tellIn });
     const told = SAY.answered(objects, opl.length, milliseconds, verdict.fetched);
     byId("details").textContent = mirror === "" ? `${told} ${SAY.fromFiles}` : told;
   } else if (verdict.status === "no") {
@@ -100,7 +141,11 @@ async function judge(signal, { query, bytes, digits, mirror = "", root = null, a
   } else {
     tell("fault", verdict.status === "bad root" ? SAY.badRoot : SAY.noMemory);
   }
-  kept.keepAsked(query, mirror, byId("verdict").textContent);
+  keepAsked(query, mirror);
+}
+
+function keepAsked(query, place) {
+  kept.keepAsked(query, place, byId("verdict").textContent);
   showMirrors();
 }
 
@@ -132,7 +177,7 @@ function addNodes() {
   const query = withNodes(editor.query);
   if (query === null) return;
   editor.query = query;
-  askMirror();
+  askPlace();
 }
 
 // ---- files ----
@@ -245,6 +290,15 @@ const quoted = (word) => `'${word.replaceAll("'", "'\\''")}'`;
 const curlCommand = () =>
   `curl --data-urlencode ${quoted(`data=${editor.query}`)} ${quoted(`${mirrorAddress(byId("mirror").value) ?? byId("mirror").value}/api/interpreter`)}`;
 
+const queryCommand = (pack) => `osm_mirror query ${byId("root").value || "ROOT"} ${quoted(pack)} ${quoted(editor.query)}`;
+
+/** Offers the words by which a program asks the same. */
+function copyCommand() {
+  const pack = packAddress(byId("mirror").value);
+  if (pack === null) copy(SAY.curlTitle, SAY.curlText, curlCommand());
+  else copy(SAY.commandTitle, SAY.commandText, queryCommand(pack));
+}
+
 async function copy(title, text, words) {
   byId("copied-title").textContent = title;
   byId("copied-words").value = words;
@@ -293,11 +347,11 @@ function showExamples() {
 function listen() {
   byId("ask").onsubmit = (event) => {
     event.preventDefault();
-    askMirror();
+    askPlace();
   };
   byId("query").addEventListener("input", lookAtQuery);
   byId("query").addEventListener("keydown", (event) => {
-    if (event.key === "Enter" && (event.ctrlKey || event.metaKey)) askMirror();
+    if (event.key === "Enter" && (event.ctrlKey || event.metaKey)) askPlace();
   });
   byId("stop").onclick = () => {
     asking?.abort();
@@ -305,7 +359,7 @@ function listen() {
   };
   byId("add-nodes").onclick = addNodes;
   byId("share").onclick = () => copy(SAY.linkTitle, SAY.linkText, shareLink());
-  byId("curl").onclick = () => copy(SAY.curlTitle, SAY.curlText, curlCommand());
+  byId("curl").onclick = copyCommand;
   byId("show-history").onclick = showHistory;
   byId("clear-history").onclick = () => {
     kept.clearAsked();

@@ -29,9 +29,7 @@ export function mirrorAddress(text) {
  */
 export async function ask(mirror, query, signal, onBytes = () => {}) {
   const url = `${mirror}/api/checked`;
-  if (location.protocol === "https:" && new URL(url).protocol === "http:" && !isLoopback(url)) {
-    throw new NotAnswered(SAY.mixed(mirror));
-  }
+  refuseMixed(url);
   const begun = performance.now();
   const response = await reached(mirror, url, query, signal);
   const body = await whole(response, signal, onBytes);
@@ -42,7 +40,12 @@ export async function ask(mirror, query, signal, onBytes = () => {}) {
   return { ...parts, milliseconds };
 }
 
-const isLoopback = (url) => /^(localhost|127\.\d+\.\d+\.\d+|\[::1\])$/.test(new URL(url).hostname);
+/** Refuses an address that the browser doesn't let a page ask that came by https. */
+export function refuseMixed(url) {
+  const { origin, protocol, hostname } = new URL(url);
+  const isLoopback = /^(localhost|127\.\d+\.\d+\.\d+|\[::1\])$/.test(hostname);
+  if (location.protocol === "https:" && protocol === "http:" && !isLoopback) throw new NotAnswered(SAY.mixed(origin));
+}
 
 async function reached(mirror, url, query, signal) {
   try {

@@ -7,7 +7,7 @@ export const TEXTS = {
   subtitle: "This page asks a mirror and checks its answer by itself. Only the root has to be right.",
   askForm: "Query",
   mirror: "Mirror",
-  mirrorHelp: "Its address, as https://mirror.example. The mirror isn't trusted.",
+  mirrorHelp: "Its address, as https://mirror.example, or that of a pack, as https://files.example/town.pack. Neither is trusted.",
   root: "Root",
   rootHelp: "64 digits that the publisher of the data tells, not the mirror.",
   manageRoots: "Roots…",
@@ -116,6 +116,22 @@ export const VERDICT_CODES = {
   C9: ["the answer differs from what the proof shows", "The answer was changed. Ask another mirror."],
 };
 
+/** Why there is no answer from a pack, and what to do about it: by the reason's number (crates/osm_query_web/src/told.rt). */
+export const PACK_REASONS = {
+  1: ["the query doesn't read", ""],
+  2: ["the file isn't a pack", "Is the address that of a file which osm_mirror pack has written?"],
+  3: ["the pack has another version", "A newer page may read it."],
+  4: ["the pack is cut short", "It wasn't copied whole. Take another copy."],
+  5: ["there are bytes after the pack", "It was changed. Take another copy."],
+  6: ["the pack ends before what it says of itself", "It was changed, or wasn't copied whole. Take another copy."],
+  7: ["the pack is of another root than yours", "It has another data set, or another sequence of changes. Ask the publisher for the newest root, and for the pack of your root."],
+  8: ["the pack hasn't a node that the query needs", "It was changed. Take another copy."],
+  9: ["the pack has other bytes than the root stands for", "It was damaged or changed. Take another copy."],
+  10: ["the query needs too many bytes of the pack", "Ask for less: a smaller box, or fewer statements."],
+  11: ["what the root stands for isn't a set of objects", "The root isn't of an honestly built set."],
+  12: ["the query is too much work", "Ask for less: a smaller box, or fewer statements."],
+};
+
 const KINDS = { n: "node", w: "way", r: "relation" };
 
 const counted = (count, one, more = `${one}s`) => `${count.toLocaleString("en")} ${count === 1 ? one : more}`;
@@ -156,8 +172,24 @@ export const SAY = {
   answered: (objects, answerBytes, milliseconds, nodes) =>
     `${counted(objects, "object")}, ${size(answerBytes)}${milliseconds === null ? "" : `; the mirror took ${time(milliseconds)}`}; ${counted(nodes, "tree node")} read.`,
   fromFiles: "From files; no mirror was asked.",
-  noChecker: (message) => `The checker couldn't be loaded, so nothing can be checked: ${message}`,
-  checkerMissing: "out/osm_check.wasm isn't there. web/build makes it.",
+  noModule: (message) => `The checker couldn't be loaded, so nothing can be checked: ${message}`,
+  moduleMissing: (name) => `out/${name}.wasm isn't there. web/build makes it.`,
+
+  // Packs
+  reading: (requests, bytes) => `${counted(requests, "request")}, ${size(bytes)} …`,
+  foundHere: (root, milliseconds) =>
+    `Complete and exact under root ${shortRoot(root)}, found here in ${time(milliseconds)}; no mirror was asked`,
+  found: (objects, answerBytes, { requests, received, size: all }) =>
+    `${counted(objects, "object")}, ${size(answerBytes)}; ${counted(requests, "request")}, ${size(received)} of the pack's ${size(all)}.`,
+  notFound: (meaning) => `No answer: ${meaning}.`,
+  packUnreachable: (url) =>
+    `${url} can't be read. Is the address right, does the server run, and does it let pages from elsewhere read (Access-Control-Allow-Origin)?`,
+  noPack: (url, status) => `${url} isn't there: the server says ${status}.`,
+  packMoved: (url) => `The server refers from ${url} to another place, which isn't followed.`,
+  noRanges: (url) => `The server of ${url} doesn't give parts of files, and the whole is too large for this page.`,
+  otherRange: (url) => `The server of ${url} sent something else than the part that was asked for.`,
+  packChanged: (url) => `${url} has changed meanwhile. Ask again.`,
+  packBrokeOff: (message) => `The server broke off (${message}). Ask again.`,
 
   // The query
   fault: (code, line, column, meaning, advice) => `${code}, line ${line}, column ${column}: ${meaning}. ${advice}`,
@@ -241,6 +273,8 @@ export const SAY = {
   linkText: "It has the mirror and the query, and no root: whoever opens it needs the root from the publisher.",
   curlTitle: "The same by curl",
   curlText: "It prints the answer without a check. osm_mirror fetch asks with the proof, and checks.",
+  commandTitle: "The same by osm_mirror",
+  commandText: "It finds the answer in the pack by itself, as this page does. It speaks http and not https.",
   copied: "Copied.",
   notCopied: "Copy it from here:",
 

@@ -186,7 +186,8 @@ def page_server(data=None):
             if where and is_module and (where[1] == "0" or "_32" in self.path):
                 return self.send_error(404)
             if where and is_module:
-                body = with_memory_limit(MODULE.read_bytes(), int(where[1]))
+                module = WEB / "out" / self.path.rpartition("/")[2]
+                body = with_memory_limit(module.read_bytes(), int(where[1]))
                 self.send_response(200)
                 self.send_header("Content-Type", "application/wasm")
                 self.send_header("Content-Length", str(len(body)))
