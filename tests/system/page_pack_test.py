@@ -48,16 +48,18 @@ class Wire(BaseHTTPRequestHandler):
             return self.say(404, b"", how)
         if how == "moved":
             return self.say(302, b"", how, {"Location": f"/ranges/{name}"})
-        whole = file.read_bytes()
+        size = file.stat().st_size
         asked = self.headers.get("Range", "")
         self.server.asked.append((how, asked))
         if how in ("whole", "large") or not asked.startswith("bytes="):
-            return self.say(200, whole, how, length=2**40 if how == "large" else None)
+            return self.say(200, file.read_bytes(), how, length=2**40 if how == "large" else None)
         first, last = (int(it) for it in asked.removeprefix("bytes=").split("-"))
-        if first >= len(whole):
+        if first >= size:
             return self.say(416, b"", how)
-        part = whole[first : last + 1]
-        start, size = first, len(whole)
+        with file.open("rb") as opened_file:
+            opened_file.seek(first)
+            part = opened_file.read(last + 1 - first)
+        start = first
         if how == "later" and first > 0:
             start += 1
         if how == "grown" and first > 0:
