@@ -35,9 +35,10 @@ WEB = TOP / "web"
 
 
 def page_files():
-    """The files of the page with its checker, as they are installed. (A second one is made where wasm-opt is installed.)"""
-    files = [file for form in ("*.html", "*.css", "*.svg", "*.js", "out/osm_check_32.wasm") for file in WEB.glob(form)]
-    return {f"share/osm_mirror/web/{file.relative_to(WEB)}": 0o644 for file in [*files, WEB / "out/osm_check.wasm"]}
+    """The files of the page with its modules, as they are installed. (A second one of each is made where wasm-opt is installed.)"""
+    files = [file for form in ("*.html", "*.css", "*.svg", "*.js", "out/*_32.wasm") for file in WEB.glob(form)]
+    modules = [WEB / "out/osm_check.wasm", WEB / "out/osm_query.wasm"]
+    return {f"share/osm_mirror/web/{file.relative_to(WEB)}": 0o644 for file in [*files, *modules]}
 
 
 # A package has these otherwise: pages are compressed, and the licence has a place of its own.
