@@ -8,11 +8,11 @@ from runs import TOP, Tally
 from trees import digest
 
 PLACES = {
-    "example": (example, ["crates/node_pack/src/tests.rt"]),
+    "example": (example, ["crates/pack_tests/src/tests/small_pack.rt"]),
     "four objects": (
         four_objects,
         [
-            "crates/outside_answer_tests/src/packs.rt", "crates/osm_packs/src/tests/four_objects.rt",
+            "crates/outside_answer_tests/src/packs.rt", "crates/osm_packs_tests/src/tests/four_objects.rt",
             "crates/osm_query_web/src/tests/four_objects.rt",
         ],
     ),

@@ -17,8 +17,6 @@ mod object_len;
 mod read_lines;
 mod repeat_scan;
 mod rising;
-#[cfg(test)]
-mod tests;
 mod tree_entries;
 
 pub use entry_fault::EntryFault;

@@ -19,8 +19,6 @@ mod run_store;
 mod sorted;
 mod sorter;
 mod spelling;
-#[cfg(test)]
-mod tests;
 mod window;
 mod write_run;
 

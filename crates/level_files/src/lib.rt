@@ -12,8 +12,6 @@ mod row;
 mod row_reader;
 mod stored_level;
 mod stored_levels;
-#[cfg(test)]
-mod tests;
 mod tree_writer;
 mod trees_builder;
 

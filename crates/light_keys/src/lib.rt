@@ -19,8 +19,6 @@ mod laws;
 mod line_values;
 mod manifest;
 mod read_fine;
-#[cfg(test)]
-mod tests;
 mod whole_edges;
 
 pub use digests::line_digest;

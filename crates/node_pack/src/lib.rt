@@ -26,8 +26,6 @@ mod round;
 mod row;
 mod source;
 mod step;
-#[cfg(test)]
-mod tests;
 mod write_fault;
 mod writing;
 

@@ -1,4 +1,4 @@
-//! Tests of osm_index.
+//! Tests of osm_index, osm_keys and light_keys.
 //!
 //! They are a crate of their own because a crate that has tests is proved twice, with them and without.
 #![tactic(auto)]

@@ -1,5 +1,6 @@
-//! Sets of objects that are read from OPL, published and changed.
+//! Sets of objects that are read from OPL, published and changed, and the keys and values of edition 3.
 
+mod light;
 mod snapshots;
 mod texts_of_sets;
 

@@ -9,8 +9,6 @@ mod bounded_pack;
 mod not_answered;
 mod pack_command;
 mod query_command;
-#[cfg(test)]
-mod tests;
 
 pub use bounded_pack::pack_within;
 pub use not_answered::NotAnswered;

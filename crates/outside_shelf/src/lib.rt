@@ -12,8 +12,6 @@ mod proof_shelf;
 mod refused;
 mod source;
 mod stocked;
-#[cfg(test)]
-mod tests;
 
 pub use outside::OutsideShelf;
 pub use proof_shelf::ProofShelf;

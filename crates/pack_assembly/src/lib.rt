@@ -16,8 +16,6 @@ mod record;
 mod refusal;
 mod row;
 mod table;
-#[cfg(test)]
-mod tests;
 mod trees;
 mod unwritten;
 

@@ -8,8 +8,6 @@ mod build;
 mod fault;
 mod sink;
 mod taken;
-#[cfg(test)]
-mod tests;
 
 pub use build::build_pack;
 pub use fault::BuildFault;

@@ -7,8 +7,6 @@
 mod folder;
 mod pending;
 mod store;
-#[cfg(test)]
-mod tests;
 mod told;
 
 pub use folder::ScratchFolder;

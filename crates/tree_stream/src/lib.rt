@@ -17,8 +17,6 @@ mod levels;
 mod levels_read;
 mod node_sum;
 mod stream;
-#[cfg(test)]
-mod tests;
 mod writer;
 
 pub use fault::{StreamFault, WriterFault};

@@ -1,7 +1,12 @@
-//! Nodes, trees that are built, and walks over trees.
+//! Nodes, trees that are built as a whole, as a stream or through a device, walks over trees, and shelves over sources of
+//! nodes.
 
 mod codes;
 mod digests;
+mod levels;
 mod nodes;
+mod outside;
+mod streams;
 mod trees;
 mod walks;
+mod whole_trees;

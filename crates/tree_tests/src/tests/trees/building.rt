@@ -1,47 +1,15 @@
 //! Trees of lists made by rule, and worked ones.
 
-ghost use Rattle.std.specs.Prelude.{◌<◌, IsTrue};
-ghost use Rattle.tree_node.specs.NodeRefs.{bindings_of};
-ghost use Rattle.tree_node.specs.Trees.{HasTree};
+ghost use Rattle.std.specs.Prelude.{◌<◌};
 
 use super::super::digests::is_shown;
+use super::super::whole_trees::{built, has_tree};
 use super::rows::{BYTES, MARKED, NUMBERS, Row, VALUES, row_of};
 use std::alloc::{AllocError, Global};
 use std::process::Abort;
 use std::test::Fail;
 use tree_build::{BuildFault, Entry, Shape, build};
-use tree_node::{Digest, ENTRY_LIMIT, KEY_LIMIT, Stock, Tree, VALUE_LIMIT, is_above};
-
-/// Whether the entries have a tree.
-pub(super) fn has_tree(entries: &[Entry<'_>]) -> bool
-    ensures { IsTrue result → HasTree (bindings_of entries.now) }
-{
-    let mut last: Option<&[u8]> = None;
-    for entry in entries {
-        if entry.key.len() > KEY_LIMIT || entry.value.len() > VALUE_LIMIT {
-            return false;
-        }
-        if !is_above(last, entry.key) {
-            return false;
-        }
-        last = Some(entry.key);
-    }
-    entries.len() <= ENTRY_LIMIT
-}
-
-/// The tree of these entries, which have one.
-pub(super) fn built(
-    alloc: Global,
-    entries: &[Entry<'_>],
-    tree: Tree,
-    shape: Shape,
-    stock: &mut Stock,
-) -> Result<Digest, Fail> {
-    if !has_tree(entries) {
-        return Err(Fail::from("the entries have no tree"));
-    }
-    Ok(build(alloc, entries, tree, shape, stock)?)
-}
+use tree_node::{Digest, Stock, Tree};
 
 /// The tree of these entries has this top.
 fn has_top(

@@ -9,7 +9,8 @@ ghost use Rattle.tree_node.specs.Recorders.{RecorderHolds};
 ghost use Rattle.tree_node.specs.Stocks.{HasNode};
 ghost use Rattle.tree_node.specs.Trees.{FitsTree, HasTree};
 
-use super::building::{built, has_tree, keys_alone};
+use super::super::whole_trees::{built, has_tree};
+use super::building::keys_alone;
 use super::chance::{Case, case_of, entries_of, entry_change, entry_changes, keys};
 use std::alloc::{AllocError, Global};
 use std::process::Abort;

@@ -1,0 +1,10 @@
+//! Sorted records and entries, and packs.
+
+mod assembly;
+mod building;
+mod entries;
+mod kept_runs;
+mod packs;
+mod scratch;
+mod small_pack;
+mod sorting;

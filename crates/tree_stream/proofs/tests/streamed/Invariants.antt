@@ -1,6 +1,0 @@
-use Rattle.tree_stream.specs.Streams.{IsSound}
-use Rattle.tree_stream.proofs.tests.streamed.Given as goal
-
--- no call was refused
-abbrev pub invariant-loop-entry : goal.invariant-loop-entry
-invariant-loop-entry g l = IsSound g.W.NodeWriter.given l.stream

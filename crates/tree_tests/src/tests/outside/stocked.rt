@@ -1,0 +1,162 @@
+//! Shelves over a stock with some nodes of the tree, and over sources for the others.
+
+use super::{LAST, LAST_KEY, LEAF, LEAF_KEY, Listed, TOP, TOP_KEY, TREE, Turned};
+use bumpalo::Bump;
+use outside_shelf::{NodeSource, ProofShelf, Refused, SourceFault, StockedShelf};
+use std::alloc::Global;
+use std::process::Abort;
+use std::test::Fail;
+use tree_node::{Digest, NewNode, Part, Shelf, ShelfFault, Stock};
+
+/// Has no node.
+#[derive(Drop)]
+struct Bare;
+
+impl NodeSource for Bare {
+    fn read_node(
+        &mut self,
+        _key: &Digest,
+        _at_most: usize,
+        _into: &mut Vec<u8>,
+    ) -> Result<(), SourceFault> {
+        Err(SourceFault::Absent)
+    }
+
+    fn announce(&mut self, _top: &Digest, _lo: &[u8], _hi: &[u8]) {}
+}
+
+/// A stock with the first leaf alone.
+fn stock_of_leaf(alloc: Global) -> Result<Stock, Fail> {
+    let mut stock = Stock::new(alloc);
+    stock.put(LEAF.to_vec(alloc)?)?;
+    Ok(stock)
+}
+
+/// The nodes that were used, as a proof lists them.
+fn used<'a>(alloc: Global, shelf: &impl ProofShelf<'a>) -> Result<Vec<Part<'a>>, Fail> {
+    Ok(shelf.used_parts(alloc)?)
+}
+
+/// A node of the stock is given without a source that has it, and counts as used only then. The reason of a refusal is told
+/// until the next node is asked for.
+#[test]
+fn gives_nodes_of_the_stock(rt: HostRuntime) -> Result<(), Fail> {
+    let arena = Bump::new(rt.alloc());
+    let stock = stock_of_leaf(rt.alloc())?;
+    let mut shelf = StockedShelf::new(rt.alloc(), &stock, &arena, Bare, Some(5));
+    assert!(rt; used(rt.alloc(), &shelf)?.is_empty());
+    assert!(rt; shelf.fetch(&LAST_KEY) == Err(ShelfFault::Missing));
+    assert_eq!(rt; shelf.reason(), Some(Refused::Absent));
+    assert!(rt; shelf.fetch(&LEAF_KEY) == Ok(LEAF));
+    assert_eq!(rt; shelf.reason(), None);
+    let leaf = shelf.fetch_node(&LEAF_KEY)?;
+    assert!(rt; leaf.bytes == LEAF && leaf.read.is_ok());
+    let parts = used(rt.alloc(), &shelf)?;
+    assert!(rt; parts.len() == 1 && parts[0].bytes() == LEAF);
+    assert_eq!(rt; shelf.left(), Some(5));
+    assert_eq!(rt; shelf.brought_len(), 0);
+    assert!(rt; shelf.brought(rt.alloc())?.is_empty());
+    Ok(())
+}
+
+/// What the stock hasn't is brought and counted. Nodes of both kinds are listed by rising digest, each once.
+#[test]
+fn brings_what_the_stock_has_not(rt: HostRuntime) -> Result<(), Fail> {
+    let arena = Bump::new(rt.alloc());
+    let stock = stock_of_leaf(rt.alloc())?;
+    let mut shelf = StockedShelf::new(rt.alloc(), &stock, &arena, Listed, Some(1000));
+    for (key, node) in TREE.iter().chain(&TREE) {
+        assert!(rt; shelf.fetch(key) == Ok(*node));
+        assert!(rt; shelf.fetch_node(key)?.bytes == *node);
+    }
+    // The top has 90 bytes, and the last leaf 11.
+    assert_eq!(rt; shelf.left(), Some(899));
+    assert_eq!(rt; shelf.brought_len(), 101);
+    let parts = used(rt.alloc(), &shelf)?;
+    assert_eq!(rt; parts.len(), 3);
+    for (part, (key, node)) in parts
+        .iter()
+        .zip([(TOP_KEY, TOP), (LAST_KEY, LAST), (LEAF_KEY, LEAF)])
+    {
+        assert!(rt; part.digest() == key && part.bytes() == node);
+    }
+    Ok(())
+}
+
+/// Copies of what is brought for the whole tree.
+fn copies_of_tree(rt: &impl Abort, alloc: Global, stock: &Stock) -> Result<Vec<NewNode>, Fail> {
+    let arena = Bump::new(alloc);
+    let mut shelf = StockedShelf::new(alloc, stock, &arena, Listed, None);
+    for (key, node) in &TREE {
+        assert!(rt; shelf.fetch(key)? == *node);
+    }
+    Ok(shelf.brought(alloc)?)
+}
+
+/// What was brought can be put into the stock, and then no source is needed for it. Run with each allocation refused in turn.
+#[test]
+fn keeps_what_was_brought_within_memory(rt: HostRuntime) -> Result<(), Fail> {
+    let mut stock = stock_of_leaf(rt.alloc())?;
+    let copies = copies_of_tree(&rt, rt.alloc(), &stock)?;
+    assert!(rt; copies.len() == 2 && copies[0].digest == TOP_KEY && copies[1].digest == LAST_KEY);
+    for copy in copies {
+        stock.put_new(copy)?;
+    }
+    let arena = Bump::new(rt.alloc());
+    let mut shelf = StockedShelf::new(rt.alloc(), &stock, &arena, Bare, Some(0));
+    for (key, node) in &TREE {
+        assert!(rt; shelf.fetch(key)? == *node);
+    }
+    assert_eq!(rt; shelf.left(), Some(0));
+    assert_eq!(rt; used(rt.alloc(), &shelf)?.len(), 3);
+    Ok(())
+}
+
+/// Bytes with another digest are refused, and neither listed nor copied.
+#[test]
+fn refuses_what_is_not_the_node(rt: HostRuntime) -> Result<(), Fail> {
+    let arena = Bump::new(rt.alloc());
+    let stock = Stock::new(rt.alloc());
+    let first = Some(Ok(LAST));
+    let mut shelf = StockedShelf::new(rt.alloc(), &stock, &arena, Turned { first }, Some(1000));
+    assert!(rt; shelf.fetch(&LEAF_KEY) == Err(ShelfFault::Missing));
+    assert_eq!(rt; shelf.reason(), Some(Refused::Other));
+    assert_eq!(rt; shelf.left(), Some(989));
+    assert!(rt; used(rt.alloc(), &shelf)?.is_empty());
+    assert!(rt; shelf.brought(rt.alloc())?.is_empty());
+    assert!(rt; shelf.fetch(&LEAF_KEY) == Ok(LEAF));
+    assert_eq!(rt; shelf.brought_len(), 11);
+    Ok(())
+}
+
+/// A source hears what is announced.
+#[test]
+fn hands_hints_on(rt: HostRuntime) {
+    let arena = Bump::new(rt.alloc());
+    let stock = Stock::new(rt.alloc());
+    let first = Some(Err(SourceFault::Device));
+    let mut shelf = StockedShelf::new(rt.alloc(), &stock, &arena, Turned { first }, None);
+    shelf.announce(&TOP_KEY, b"a", b"b");
+    assert!(rt; shelf.fetch(&LEAF_KEY) == Ok(LEAF));
+}
+
+/// Fetches the node. Where memory is refused it is told so, and the node is fetched again.
+fn fetch_at_last(rt: &impl Abort, shelf: &mut StockedShelf<'_, Listed>, key: &Digest, node: &[u8]) {
+    if shelf.fetch(key) == Err(ShelfFault::Memory) {
+        assert_eq!(rt; shelf.refused(), Some(Refused::Memory));
+    }
+    assert!(rt; shelf.fetch(key) == Ok(node));
+    assert_eq!(rt; shelf.refused(), None);
+}
+
+/// Run with each allocation refused in turn.
+#[test]
+fn fetches_nodes_of_both_after_refused_memory(rt: HostRuntime) -> Result<(), Fail> {
+    let arena = Bump::new(rt.alloc());
+    let stock = stock_of_leaf(rt.alloc())?;
+    let mut shelf = StockedShelf::new(rt.alloc(), &stock, &arena, Listed, None);
+    for (key, node) in &TREE {
+        fetch_at_last(&rt, &mut shelf, key, node);
+    }
+    Ok(())
+}
