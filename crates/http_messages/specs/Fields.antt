@@ -1,6 +1,7 @@
 -- What the fields of a head say of the body and of the connection.
--- Source: RFC 9112, sections 6.3 and 9.6; the refusals and the limits are this project's.
-use Rattle.std.specs.Prelude.{ℕ, Bool, ◌&&◌, List, [], ◌∷◌, map, length, Option, Some, None, Result, Ok, Err, if◌then◌else◌, ◌==◌, nat_lt, nat_le, codes}
+-- Source: RFC 9112, sections 6.1, 6.3 and 9.6, RFC 9110, section 8.4; the refusals and the limits are this project's, and that several fields of one name
+-- have no only value.
+use Rattle.std.specs.Prelude.{ℕ, Bool, ◌&&◌, ◌||◌, List, [], ◌∷◌, map, length, Option, Some, None, Result, Ok, Err, if◌then◌else◌, ◌==◌, nat_lt, nat_le, codes}
 use Rattle.std.specs.List.{list_all, list_any, slice_split}
 use Rattle.std.specs.Str.{bytes_eq}
 use Rattle.std.specs.Str.Parse.{digits_value}
@@ -31,6 +32,30 @@ values_named name (field ∷ fields) =
 -- 1 to 19 digits
 abbrev pub is_length : List ℕ → Bool
 is_length value = nat_lt 0 (length value) && (nat_le (length value) DIGIT_LIMIT && list_all is_ascii_digit value)
+
+-- the number that 1 to 19 digits write
+abbrev pub number_of : List ℕ → Option ℕ
+number_of value = if is_length value then Some (digits_value 10 value) else None
+
+-- the one value, if there is just one
+abbrev pub only : List (List ℕ) → Option (List ℕ)
+only [] = None
+only (value ∷ []) = Some value
+only (value ∷ other ∷ values) = None
+
+-- the number that the one value writes
+abbrev pub number_in : Option (List ℕ) → Option ℕ
+number_in None = None
+number_in (Some value) = number_of value
+
+-- the body stands in another form than its own bytes
+abbrev pub is_coded : List FieldPair → Bool
+is_coded fields =
+    list_any (is_named (codes "transfer-encoding")) fields || list_any (is_named (codes "content-encoding")) fields
+
+-- the number that the only field Content-Length states
+abbrev pub stated_length : List FieldPair → Option ℕ
+stated_length fields = number_in (only (values_named (codes "content-length") fields))
 
 -- the length that the values of all fields Content-Length give
 abbrev pub length_of : List (List ℕ) → Result (Option ℕ) Refusal

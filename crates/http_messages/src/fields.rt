@@ -1,15 +1,14 @@
 //! What the fields of a head say of the body and of the connection.
 
 ghost use Rattle.std.specs.Prelude.{◌≡◌, ◌≤◌, All, Err, IfOk, List, None, Ok, Some, codes, if◌then◌else◌, length, map, reverse, true, ℕ};
-ghost use Rattle.std.specs.Char.{is_ascii_digit};
-ghost use Rattle.std.specs.List.{list_all, list_any};
-ghost use Rattle.std.specs.Str.Parse.{digits_value};
 ghost use Rattle.httparse.specs.Grammar.{skip_ows, trim_ows};
 ghost use Rattle.httparse.specs.Spans.{IsHeaderWithin, header_bytes};
-ghost use Rattle.http_messages.specs.Fields.{asks_close, body_length, framing, is_length, is_named, length_of, lists_close, same_name, values_named};
+ghost use Rattle.http_messages.specs.Fields.{asks_close, body_length, framing, length_of, lists_close, values_named};
 ghost use Rattle.http_messages.specs.declared.limits.TheConstants.{BODY_LIMIT};
 
-use crate::limits::{BODY_LIMIT, DIGIT_LIMIT};
+use crate::lengths::{is_length, parse_length};
+use crate::limits::BODY_LIMIT;
+use crate::named_fields::{has_field, is_same_name};
 use crate::refusal::Refusal;
 use httparse::is_space_or_tab;
 use httparse::spans::HeaderSpan;
@@ -33,26 +32,6 @@ pub(crate) fn body_len(head: &[u8], headers: &[HeaderSpan], method: &[u8]) -> Re
     }
 }
 
-/// Whether a field has this name.
-fn has_field(head: &[u8], headers: &[HeaderSpan], name: &[u8]) -> bool
-    requires { All (IsHeaderWithin (length head.now)) headers.now }
-    ensures { result ≡ list_any (is_named name.now) (map (header_bytes head.now) headers.now) }
-{
-    for header in headers {
-        if is_name(header.name.of(head), name) {
-            return true;
-        }
-    }
-    false
-}
-
-/// Whether the names are the same, letters of either case being alike.
-fn is_name(name: &[u8], wanted: &[u8]) -> bool
-    ensures { result ≡ same_name name.now wanted.now }
-{
-    name.eq_ignore_ascii_case(wanted)
-}
-
 /// The number that the field `Content-Length` gives; none where there is no such field.
 fn content_length(head: &[u8], headers: &[HeaderSpan]) -> Result<Option<u64>, Refusal>
     requires { All (IsHeaderWithin (length head.now)) headers.now }
@@ -61,7 +40,7 @@ fn content_length(head: &[u8], headers: &[HeaderSpan]) -> Result<Option<u64>, Re
 {
     let mut found: Option<&[u8]> = None;
     for header in headers {
-        if is_name(header.name.of(head), b"content-length") {
+        if is_same_name(header.name.of(head), b"content-length") {
             if found.is_some() {
                 return Err(Refusal::BadLength);
             }
@@ -77,31 +56,6 @@ fn content_length(head: &[u8], headers: &[HeaderSpan]) -> Result<Option<u64>, Re
     Ok(Some(parse_length(value)))
 }
 
-/// Whether the value is a number of 1 to 19 digits.
-fn is_length(value: &[u8]) -> bool
-    ensures { result ≡ is_length value.now }
-{
-    !value.is_empty() && value.len() <= DIGIT_LIMIT && are_digits(value)
-}
-
-fn are_digits(value: &[u8]) -> bool
-    ensures { result ≡ list_all is_ascii_digit value.now }
-{
-    value.iter().all(|byte| byte.is_ascii_digit())
-}
-
-/// The number that these digits write.
-fn parse_length(value: &[u8]) -> u64
-    requires { is_length value.now ≡ true }
-    ensures { result ≡ digits_value 10 value.now }
-{
-    let mut length = 0;
-    for byte in value {
-        length = length * 10 + u64::from(*byte - b'0');
-    }
-    length
-}
-
 /// Whether a field asks for the end of the connection (RFC 9112, section 9.6).
 #[tactic(auto, unfolding(crate::specs::Fields::asks_close))]
 pub(crate) fn asks_close(head: &[u8], headers: &[HeaderSpan]) -> bool
@@ -109,7 +63,7 @@ pub(crate) fn asks_close(head: &[u8], headers: &[HeaderSpan]) -> bool
     ensures { result ≡ asks_close (map (header_bytes head.now) headers.now) }
 {
     for header in headers {
-        if is_name(header.name.of(head), b"connection") && lists_close(header.value.of(head)) {
+        if is_same_name(header.name.of(head), b"connection") && lists_close(header.value.of(head)) {
             return true;
         }
     }
@@ -122,7 +76,7 @@ fn lists_close(value: &[u8]) -> bool
 {
     value
         .split(|byte| *byte == b',')
-        .any(|token| is_name(trimmed(token), b"close"))
+        .any(|token| is_same_name(trimmed(token), b"close"))
 }
 
 /// The bytes without the spaces and tabs around them.

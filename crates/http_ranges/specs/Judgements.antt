@@ -1,8 +1,8 @@
 -- What a response is worth to who asked for a range of a file, by its status and its fields.
 -- Source: RFC 9110, sections 14.4, 15.2 to 15.5; what is taken and what it is refused for is this project's.
 use Rattle.std.specs.Prelude.{ℕ, Bool, false, ◌&&◌, ◌||◌, not, List, Option, Some, None, if◌then◌else◌, ◌==◌, ◌+◌, ◌-◌, ◌^◌, codes, min, nat_lt, nat_le}
-use Rattle.http_messages.specs.Fields.{FieldPair, values_named}
-use Rattle.http_ranges.specs.Fields.{is_coded, number_of, only, says_close}
+use Rattle.http_messages.specs.Fields.{FieldPair, is_coded, only, stated_length, values_named}
+use Rattle.http_ranges.specs.Fields.{says_close}
 use Rattle.http_ranges.specs.Ranges.{range_of}
 use Rattle.http_ranges.specs.declared.byte_range.ByteRange.{ByteRange}
 use Rattle.http_ranges.specs.declared.content_range.ContentRange.{ContentRange}
@@ -25,13 +25,6 @@ range_in (Some value) = range_of value
 
 abbrev pub stated_range : List FieldPair → Option ContentRange
 stated_range fields = range_in (only (values_named (codes "content-range") fields))
-
-abbrev pub number_in : Option (List ℕ) → Option ℕ
-number_in None = None
-number_in (Some value) = number_of value
-
-abbrev pub stated_length : List FieldPair → Option ℕ
-stated_length fields = number_in (only (values_named (codes "content-length") fields))
 
 -- the file is known to have another size
 abbrev pub differs : Option ℕ → ℕ → Bool

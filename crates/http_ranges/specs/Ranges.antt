@@ -2,7 +2,7 @@
 -- Source: RFC 9110, section 14.4; that the size is told too is this project's.
 use Rattle.std.specs.Prelude.{ℕ, ◌+◌, List, Option, Some, None, if◌then◌else◌, ◌==◌, codes, drop, nat_eq, position, take}
 use Rattle.std.specs.List.{starts_with}
-use Rattle.http_ranges.specs.Fields.{number_of}
+use Rattle.http_messages.specs.Fields.{number_of}
 use Rattle.http_ranges.specs.declared.content_range.ContentRange.{ContentRange}
 
 -- what comes before the first such byte, and what comes after it

@@ -1,11 +1,11 @@
 //! The range that a response is of.
 
 ghost use Rattle.std.specs.Prelude.{◌≡◌, ◌==◌, ◌<◌, IfSome, length, position};
-ghost use Rattle.http_ranges.specs.Fields.{number_of};
+ghost use Rattle.http_messages.specs.Fields.{number_of};
 ghost use Rattle.http_ranges.specs.Ranges.{by_dash, by_slash, of_numbers, parts_at, range_of};
 ghost use Rattle.http_ranges.specs.internal.Told.{told_parts};
 
-use crate::fields::number_of;
+use http_messages::number_of;
 
 /// What a field `Content-Range` says: the first and the last byte of the range, and how many bytes the file has.
 #[derive(Clone, Copy, Debug, PartialEq, Eq)]

@@ -3,14 +3,15 @@
 ghost use Rattle.std.specs.Prelude.{◌≡◌, ◌<◌, ◌^◌, All, IfSome, length, map};
 ghost use Rattle.httparse.specs.Spans.{IsHeaderWithin, header_bytes};
 ghost use Rattle.http_ranges.specs.Heads.{IsJudged};
-ghost use Rattle.http_ranges.specs.Judgements.{by_part, covers, differs, judged, refusal_of, stated_length, stated_range};
+ghost use Rattle.http_ranges.specs.Judgements.{by_part, covers, differs, judged, refusal_of, stated_range};
 
 use crate::byte_range::ByteRange;
 use crate::content_range::{ContentRange, read_content_range};
-use crate::fields::{is_coded, number_of, only_value, says_close};
+use crate::fields::says_close;
 use crate::head::read_head;
 use crate::limits::FIELD_LIMIT;
 use crate::not_given::NotGiven;
+use http_messages::{is_coded, only_value, stated_length};
 use httparse::spans::{EMPTY_HEADER_SPAN, HeaderSpan};
 
 /// A response that has the range that was asked for.
@@ -127,14 +128,6 @@ fn stated_range(head: &[u8], headers: &[HeaderSpan]) -> Option<ContentRange>
     ensures { result ≡ stated_range (map (header_bytes head.now) headers.now) }
 {
     read_content_range(only_value(head, headers, b"content-range")?)
-}
-
-/// The number that the only field `Content-Length` says.
-fn stated_length(head: &[u8], headers: &[HeaderSpan]) -> Option<u64>
-    requires { All (IsHeaderWithin (length head.now)) headers.now }
-    ensures { result ≡ stated_length (map (header_bytes head.now) headers.now) }
-{
-    number_of(only_value(head, headers, b"content-length")?)
 }
 
 /// Whether the file is known to have another size.

@@ -15,11 +15,11 @@ use Rattle.hex.specs.Hex.{encode_lower, encode_with, lower_digits}
 use Rattle.hex.proofs.HexLemmas.{length-encode_with}
 use Rattle.httparse.specs.Grammar.{AllPass, Field, IsField, IsResponseHead, IsToken, crlf, is_ows, is_token_byte, is_value_byte, print_field, print_response, ResponseHead, skip_ows, trim_ows}
 use Rattle.httparse.proofs.TrimLemmas.{AllPass-reverse, trim_ows_space}
-use Rattle.http_messages.specs.Fields.{is_length}
+use Rattle.http_messages.specs.Fields.{is_length, number_of}
 use Rattle.http_messages.specs.ResponseTexts.{HeadParts, close_if, head_text, line_end, response_text}
 use Rattle.osm_gate.specs.Responses.{checked_body, ok_response}
 use Rattle.mirror_reply.specs.Heads.{fields_of}
-use Rattle.mirror_reply.specs.Lengths.{one_length, told_length}
+use Rattle.mirror_reply.specs.Lengths.{told_length}
 use Rattle.mirror_reply.specs.Replies.{HasReply}
 
 -- ---- digits
@@ -174,9 +174,9 @@ honest-told closes root size small =
     (digits-skip (reverse (decimal size)) (AllPass-reverse is_ascii_digit (decimal size) all)) in
     let few : length (decimal size) ≤ 19 = length-decimal-le 19 size (lit< tt) small (omega arith) in
     let is : is_length (decimal size) ≡ true = length-like (decimal size) numeral.0.0 few all in
-    named closes ∙ ap (λ (v : List ℕ). one_length (v ∷ [])) trimmed ∙ rw is (ap (λ (n : ℕ). Some n) numeral.1)
+    named closes ∙ ap number_of trimmed ∙ rw is (ap (λ (n : ℕ). Some n) numeral.1)
   where
-    named : (closes : Bool) → told_length (fields_of (honest_head closes root size)) ≡ one_length (trim_ows (32 ∷ decimal size) ∷ [])
+    named : (closes : Bool) → told_length (fields_of (honest_head closes root size)) ≡ number_of (trim_ows (32 ∷ decimal size))
     named true = refl
     named false = refl
 

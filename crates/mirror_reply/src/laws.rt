@@ -5,7 +5,8 @@ ghost use Rattle.http_messages.specs.ResponseTexts.{response_text};
 ghost use Rattle.osm_gate.specs.Responses.{checked_body, ok_response};
 ghost use Rattle.mirror_reply.specs.Replies.{HasReply};
 ghost use Rattle.mirror_reply.specs.Standings.{HasFault, Standing, Stands, replied};
-ghost use Rattle.mirror_reply.specs.declared.limits.TheConstants.{DIGIT_LIMIT, FIELD_LIMIT, HEAD_LIMIT, PIECE_LIMIT, PREFIX_SIZE, READ_LIMIT, ROOT_SIZE, TEXT_LIMIT};
+ghost use Rattle.http_messages.specs.declared.limits.TheConstants.{DIGIT_LIMIT};
+ghost use Rattle.mirror_reply.specs.declared.limits.TheConstants.{FIELD_LIMIT, HEAD_LIMIT, PIECE_LIMIT, PREFIX_SIZE, READ_LIMIT, ROOT_SIZE, TEXT_LIMIT};
 ghost use Rattle.mirror_reply.specs.declared.reply_fault.ReplyFault.{ReplyFault};
 
 /// A law: some bytes say one thing at most: that more have to come, one reply, or one fault.

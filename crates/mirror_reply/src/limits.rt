@@ -20,6 +20,3 @@ pub(crate) const READ_LIMIT: u32 = 1_048_576;
 
 /// The number of bytes that one read may give.
 pub(crate) const PIECE_LIMIT: usize = 65_536;
-
-/// The number of digits that a field `Content-Length` may have.
-pub(crate) const DIGIT_LIMIT: usize = 19;

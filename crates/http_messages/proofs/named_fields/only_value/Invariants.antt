@@ -2,7 +2,7 @@
 use Rattle.std.proofs.Common.{◌≡◌, map, drop, ◌++◌}
 use Rattle.httparse.specs.Spans.{header_bytes}
 use Rattle.http_messages.specs.Fields.{values_named}
-use Rattle.http_ranges.proofs.fields.only_value.Given as goal
+use Rattle.http_messages.proofs.named_fields.only_value.Given as goal
 use Rattle.http_messages.proofs.shared.FieldLemmas.{found_values}
 
 abbrev pub invariant-loop-header : goal.invariant-loop-header

@@ -3,7 +3,7 @@ use Rattle.std.proofs.Common.{◌≡◌, map, drop}
 use Rattle.std.specs.List.{list_any}
 use Rattle.httparse.specs.Spans.{header_bytes}
 use Rattle.http_messages.specs.Fields.{is_named}
-use Rattle.http_messages.proofs.fields.has_field.Given as goal
+use Rattle.http_messages.proofs.named_fields.has_field.Given as goal
 
 abbrev pub invariant-loop-header : goal.invariant-loop-header
 invariant-loop-header l =

@@ -1,7 +1,7 @@
 use Rattle.std.proofs.Common.{ap, arith, take_all}
 use Rattle.std.specs.Str.Parse.{digits_value}
 use Rattle.http_messages.proofs.shared.FieldLemmas.{digits-more, digits-small, length-parts}
-use Rattle.mirror_reply.proofs.fields.parse_length.Goals as goal
+use Rattle.http_messages.proofs.lengths.parse_length.Goals as goal
 
 pub overflow_mul-length : goal.overflow_mul-length
 overflow_mul-length c =
