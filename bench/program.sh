@@ -2,10 +2,10 @@
 #
 #   build_program NAME USES
 #
-# builds bench/NAME.program, which names the libraries USES, over copies of the crates that these stand on, in a folder
-# outside the repository (WORK, or a new one), so that the gate doesn't prove it, and goes to the folder in which out/NAME
-# then lies. Where there is a file bench/FILE.invariants that belongs to a function of the program, the script copies it by
-# `invariants`.
+# builds bench/NAME.program, which names the libraries USES, in a folder outside the repository (WORK, or a new one), so that
+# the gate doesn't prove it, and goes to the folder in which out/NAME then lies. Where ./test has just run, the program is
+# built over the libraries that it has proved, else over copies of the crates, which are proved first. Where there is a file
+# bench/FILE.invariants that belongs to a function of the program, the script copies it by `invariants`.
 top=$(cd "$(dirname "${BASH_SOURCE[0]}")/.." && pwd)
 work=${WORK:-$(mktemp -d)}
 
@@ -33,8 +33,40 @@ crates_below() {
         }' "$top/crates.txt"
 }
 
+# build_over_proved NAME USES: the same program over the libraries that the gate has left in crates/*/out, which tests/proved
+# knows. The toolchain proves the program all the same, but nothing below it, so this takes minutes and not an hour.
+build_over_proved() {
+    local name=$1 uses=$2 kit library crate words
+    kit=$(dirname -- "$(dirname -- "$(readlink -f -- "$(command -v rt)")")")
+    words=(--extern "std=$kit/rlibs/std.rlib" -L "dependency=$kit/rlibs")
+    for library in $uses; do
+        if [ -d "$top/crates/$library" ]; then
+            words+=(--extern "$library=$top/crates/$library/out/rlib/$library.rlib")
+        else
+            words+=(--extern "$library=$kit/rlibs/$library.rlib")
+        fi
+    done
+    for crate in $(crates_below "$uses"); do
+        words+=(-L "dependency=$top/crates/$crate/out/rlib")
+    done
+    mkdir -p "$work/crates/$name/src" "$work/crates/$name/out"
+    cp "$top/bench/$name.program" "$work/crates/$name/src/main.rt"
+    cd "$work/crates/$name"
+    {
+        "$kit/bin/rattle" build --crate-name "$name" src/main.rt "${words[@]}" \
+            --antt-project "$kit/rattle/logic/antt-project.json" --logic-built "$kit/logic_built" --links "$name=" \
+            --jobs "$(nproc)" --toolchain "$kit/toolchain" --backend llvm -o "out/$name.o"
+        "$kit/bin/rattle-link" --target x86_64-unknown-linux-gnu --toolchain "$kit/toolchain" -o "out/$name" "out/$name.o" \
+            "$kit/c/libos_c.a" "$kit/c/liblibc_c.a"
+    } > "$work/build.log" 2>&1 || { tail -n 20 "$work/build.log"; exit 1; }
+}
+
 build_program() {
     local name=$1 uses=$2 crate part
+    if "$top/tests/proved"; then
+        build_over_proved "$name" "$uses"
+        return
+    fi
     mkdir -p "$work/crates/$name/src"
     echo "$name: $uses" > "$work/crates.txt"
     [ -d "$work/.git" ] || git init -q "$work"
