@@ -62,6 +62,19 @@ fn pack(alloc: Global, snapshot: &Snapshot) -> Result<Vec<u8>, Fail> {
     }
 }
 
+/// A snapshot and its pack.
+#[derive(Drop)]
+struct Published {
+    snapshot: Snapshot,
+    pack: Vec<u8>,
+}
+
+fn published(alloc: Global, set: &str, edition: Edition) -> Result<Published, Fail> {
+    let snapshot = snapshot(alloc, set, edition)?;
+    let pack = pack(alloc, &snapshot)?;
+    Ok(Published { snapshot, pack })
+}
+
 /// A request that asks a query at this end of the path.
 fn request(alloc: Global, end: &str, query: &str) -> Result<Vec<u8>, AllocError> {
     let len = query.len();
@@ -82,6 +95,24 @@ fn given<M: Mirror>(
     gate.feed_as(requests, mirror, most)
 }
 
+/// A request, and what a gate over a snapshot responds to it.
+#[derive(Drop)]
+struct Asked {
+    request: Vec<u8>,
+    response: Vec<u8>,
+}
+
+fn asked(
+    alloc: Global,
+    published: &Published,
+    end: &str,
+    query: &str,
+) -> Result<Asked, AllocError> {
+    let request = request(alloc, end, query)?;
+    let response = given(alloc, &mut &published.snapshot, &request, None)?;
+    Ok(Asked { request, response })
+}
+
 /// Each query both ways, and the root after them.
 fn all_requests(alloc: Global) -> Result<Vec<u8>, AllocError> {
     let mut requests = Vec::new(alloc);
@@ -100,16 +131,27 @@ fn serves_as_a_snapshot(
     edition: Edition,
 ) -> Result<(), Fail> {
     let alloc = rt.alloc();
-    let snapshot = snapshot(alloc, set, edition)?;
-    let pack = pack(alloc, &snapshot)?;
-    let mut of_snapshot = &snapshot;
-    let mut of_pack = PackMirror::open(alloc, pack.as_slice())?;
+    let published = published(alloc, set, edition)?;
+    let mut mirror = PackMirror::open(alloc, published.pack.as_slice())?;
     let requests = all_requests(alloc)?;
     for most in [None, Some(733), Some(732), Some(0)] {
-        let expected = given(alloc, &mut of_snapshot, &requests, most)?;
-        let responses = given(alloc, &mut of_pack, &requests, most)?;
-        assert_eq!(rt; responses.as_slice(), expected.as_slice(), "{most:?}");
+        respond_alike(rt, &published.snapshot, &mut mirror, &requests, most)?;
     }
+    Ok(())
+}
+
+/// A mirror responds as one over a snapshot does.
+fn respond_alike<M: Mirror>(
+    rt: &(impl Abort + AllocGlobal),
+    snapshot: &Snapshot,
+    mirror: &mut M,
+    requests: &[u8],
+    most: Option<u64>,
+) -> Result<(), AllocError> {
+    let mut of_snapshot = snapshot;
+    let expected = given(rt.alloc(), &mut of_snapshot, requests, most)?;
+    let responses = given(rt.alloc(), mirror, requests, most)?;
+    assert_eq!(rt; responses.as_slice(), expected.as_slice(), "{most:?}");
     Ok(())
 }
 
@@ -139,18 +181,25 @@ fn responds(
     rt: &(impl Abort + AllocGlobal),
     pack: &[u8],
     spoiled: &[u8],
-    request: &[u8],
-    expected: &[u8],
+    asked: &Asked,
 ) -> Result<bool, Fail> {
     let alloc = rt.alloc();
     if let Ok(mirror) = PackMirror::open(alloc, spoiled) {
         let mut mirror = mirror;
-        let response = given(alloc, &mut mirror, request, None)?;
-        assert!(rt; response.as_slice() == expected || response.as_slice() == FAILED);
+        responds_or_fails(rt, &mut mirror, asked)?;
     }
     let mut mirror = PackMirror::open(alloc, Replaced::new(pack, spoiled, 2))?;
-    let response = given(alloc, &mut mirror, request, None)?;
-    let is_as_before = response.as_slice() == expected;
+    Ok(responds_or_fails(rt, &mut mirror, asked)?)
+}
+
+/// Whether a mirror responds as a gate over the snapshot does. Else its device failed.
+fn responds_or_fails<M: Mirror>(
+    rt: &(impl Abort + AllocGlobal),
+    mirror: &mut M,
+    asked: &Asked,
+) -> Result<bool, AllocError> {
+    let response = given(rt.alloc(), mirror, &asked.request, None)?;
+    let is_as_before = response.as_slice() == asked.response.as_slice();
     assert!(rt; is_as_before || response.as_slice() == FAILED);
     Ok(is_as_before)
 }
@@ -159,16 +208,15 @@ fn responds(
 #[test]
 fn turned_bits_make_no_answer(rt: HostRuntime) -> Result<(), Fail> {
     let alloc = rt.alloc();
-    let snapshot = snapshot(alloc, "n1 Ta=b x1 y2\n", Edition::Two { sequence: 7 })?;
-    let pack = pack(alloc, &snapshot)?;
-    let request = request(alloc, "checked", "node[a];out;")?;
-    let expected = given(alloc, &mut &snapshot, &request, None)?;
+    let published = published(alloc, "n1 Ta=b x1 y2\n", Edition::Two { sequence: 7 })?;
+    let asked = asked(alloc, &published, "checked", "node[a];out;")?;
+    let pack = published.pack.as_slice();
     let mut spoiled = pack.to_vec(alloc)?;
     let mut responded = 0_usize;
     for at in 0..pack.len() {
         for bit in [1, 2, 4, 8, 16, 32, 64, 128_u8] {
             turn(&mut spoiled, at, bit);
-            if responds(&rt, &pack, &spoiled, &request, &expected)? {
+            if responds(&rt, pack, &spoiled, &asked)? {
                 responded = responded.saturating_add(1);
             }
             turn(&mut spoiled, at, bit);
@@ -184,15 +232,14 @@ fn turned_bits_make_no_answer(rt: HostRuntime) -> Result<(), Fail> {
 #[test]
 fn cut_packs_make_no_answer(rt: HostRuntime) -> Result<(), Fail> {
     let alloc = rt.alloc();
-    let snapshot = snapshot(alloc, SET, Edition::One)?;
-    let pack = pack(alloc, &snapshot)?;
-    let request = request(alloc, "interpreter", QUERIES[0])?;
-    let expected = given(alloc, &mut &snapshot, &request, None)?;
+    let published = published(alloc, SET, Edition::One)?;
+    let asked = asked(alloc, &published, "interpreter", QUERIES[0])?;
+    let pack = published.pack.as_slice();
     let mut responded = 0_usize;
     for len in 0..pack.len() {
         let cut = &pack[..len];
         assert!(rt; PackMirror::open(alloc, cut).is_err(), "{len}");
-        if responds(&rt, &pack, cut, &request, &expected)? {
+        if responds(&rt, pack, cut, &asked)? {
             responded = responded.saturating_add(1);
         } else {
             assert!(rt; responded == 0, "{len}");
@@ -207,21 +254,29 @@ fn cut_packs_make_no_answer(rt: HostRuntime) -> Result<(), Fail> {
 #[test]
 fn replaced_packs_make_no_answer(rt: HostRuntime) -> Result<(), Fail> {
     let alloc = rt.alloc();
-    let snapshot = snapshot(alloc, SET, Edition::Two { sequence: 7 })?;
-    let pack = pack(alloc, &snapshot)?;
+    let published = published(alloc, SET, Edition::Two { sequence: 7 })?;
     let other = other_pack(alloc)?;
-    let mut mirror = PackMirror::open(alloc, Replaced::new(&pack, &other, 2))?;
-    assert!(rt; mirror.root() == snapshot.root());
+    let mut mirror = PackMirror::open(alloc, Replaced::new(&published.pack, &other, 2))?;
+    assert!(rt; mirror.root() == published.snapshot.root());
     for end in ["interpreter", "checked"] {
-        let readable = request(alloc, end, QUERIES[0])?;
-        let response = given(alloc, &mut mirror, &readable, None)?;
-        assert_eq!(rt; response.as_slice(), FAILED, "{end}");
+        fails(&rt, &mut mirror, end, QUERIES[0])?;
         let mut others = request(alloc, end, "nothing")?;
         others.extend_from_slice(ROOT)?;
-        let expected = given(alloc, &mut &snapshot, &others, None)?;
-        let responses = given(alloc, &mut mirror, &others, None)?;
-        assert_eq!(rt; responses.as_slice(), expected.as_slice(), "{end}");
+        respond_alike(&rt, &published.snapshot, &mut mirror, &others, None)?;
     }
+    Ok(())
+}
+
+/// A query is told that the device failed.
+fn fails<M: Mirror>(
+    rt: &(impl Abort + AllocGlobal),
+    mirror: &mut M,
+    end: &str,
+    query: &str,
+) -> Result<(), AllocError> {
+    let request = request(rt.alloc(), end, query)?;
+    let response = given(rt.alloc(), mirror, &request, None)?;
+    assert_eq!(rt; response.as_slice(), FAILED, "{end}");
     Ok(())
 }
 
@@ -231,24 +286,14 @@ fn other_pack(alloc: Global) -> Result<Vec<u8>, Fail> {
 }
 
 /// How many of the first calls of the device make a query fail, each of them failing in turn. The next query is answered.
-fn failed_calls(
-    rt: &(impl Abort + AllocGlobal),
-    pack: &[u8],
-    request: &[u8],
-    expected: &[u8],
-) -> Result<u32, Fail> {
-    let alloc = rt.alloc();
+fn failed_calls(rt: &(impl Abort + AllocGlobal), pack: &[u8], asked: &Asked) -> Result<u32, Fail> {
     let mut failed = 0_u32;
     for before in 2..20_u32 {
         let device = Harmful::new(pack, before, Harm::Fails);
-        let mut mirror = PackMirror::open(alloc, device)?;
-        let response = given(alloc, &mut mirror, request, None)?;
-        if response.as_slice() == FAILED {
+        let mut mirror = PackMirror::open(rt.alloc(), device)?;
+        if !responds_or_fails(rt, &mut mirror, asked)? {
             failed = failed.saturating_add(1);
-            let next = given(alloc, &mut mirror, request, None)?;
-            assert_eq!(rt; next.as_slice(), expected);
-        } else {
-            assert_eq!(rt; response.as_slice(), expected);
+            assert!(rt; responds_or_fails(rt, &mut mirror, asked)?);
         }
     }
     Ok(failed)
@@ -258,16 +303,15 @@ fn failed_calls(
 #[test]
 fn failing_devices_make_no_answer(rt: HostRuntime) -> Result<(), Fail> {
     let alloc = rt.alloc();
-    let snapshot = snapshot(alloc, SET, Edition::One)?;
-    let pack = pack(alloc, &snapshot)?;
+    let published = published(alloc, SET, Edition::One)?;
     for before in 0..2_u32 {
-        let opened = PackMirror::open(alloc, Harmful::new(&pack, before, Harm::Fails));
+        let device = Harmful::new(&published.pack, before, Harm::Fails);
+        let opened = PackMirror::open(alloc, device);
         assert!(rt; opened.err() == Some(PackFault::Device), "{before}");
     }
     for end in ["interpreter", "checked"] {
-        let request = request(alloc, end, QUERIES[0])?;
-        let expected = given(alloc, &mut &snapshot, &request, None)?;
-        let failed = failed_calls(&rt, &pack, &request, &expected)?;
+        let asked = asked(alloc, &published, end, QUERIES[0])?;
+        let failed = failed_calls(&rt, &published.pack, &asked)?;
         assert_eq!(rt; failed, 2, "{end}");
     }
     Ok(())
@@ -277,21 +321,15 @@ fn failing_devices_make_no_answer(rt: HostRuntime) -> Result<(), Fail> {
 fn is_well_again(
     rt: &(impl Abort + AllocGlobal),
     device: Harmful<'_>,
-    requests: [&[u8]; 2],
-    expected: [&[u8]; 2],
+    asked: [&Asked; 2],
 ) -> Result<bool, Fail> {
-    let alloc = rt.alloc();
-    let mut mirror = PackMirror::open(alloc, device)?;
+    let mut mirror = PackMirror::open(rt.alloc(), device)?;
     let mut has_failed = false;
-    for (request, expected) in requests.into_iter().zip(expected) {
-        let response = given(alloc, &mut mirror, request, None)?;
-        if response.as_slice() == FAILED {
+    for asked in asked {
+        if !responds_or_fails(rt, &mut mirror, asked)? {
             assert!(rt; !has_failed);
             has_failed = true;
-            let again = given(alloc, &mut mirror, request, None)?;
-            assert_eq!(rt; again.as_slice(), expected);
-        } else {
-            assert_eq!(rt; response.as_slice(), expected);
+            assert!(rt; responds_or_fails(rt, &mut mirror, asked)?);
         }
     }
     Ok(has_failed)
@@ -302,19 +340,14 @@ fn is_well_again(
 #[test]
 fn damaged_reads_are_read_anew(rt: HostRuntime) -> Result<(), Fail> {
     let alloc = rt.alloc();
-    let snapshot = snapshot(alloc, SET, Edition::One)?;
-    let pack = pack(alloc, &snapshot)?;
-    let first = request(alloc, "interpreter", QUERIES[0])?;
-    let second = request(alloc, "checked", QUERIES[3])?;
-    let of_first = given(alloc, &mut &snapshot, &first, None)?;
-    let of_second = given(alloc, &mut &snapshot, &second, None)?;
-    let requests = [first.as_slice(), second.as_slice()];
-    let expected = [of_first.as_slice(), of_second.as_slice()];
+    let published = published(alloc, SET, Edition::One)?;
+    let first = asked(alloc, &published, "interpreter", QUERIES[0])?;
+    let second = asked(alloc, &published, "checked", QUERIES[3])?;
     for before in 2..4_u32 {
         let mut failed = 0_u32;
         for at in 0..180_usize {
-            let device = Harmful::new(&pack, before, Harm::Turns(at));
-            if is_well_again(&rt, device, requests, expected)? {
+            let device = Harmful::new(&published.pack, before, Harm::Turns(at));
+            if is_well_again(&rt, device, [&first, &second])? {
                 failed = failed.saturating_add(1);
             }
         }
@@ -328,41 +361,52 @@ fn reads_for<M: Mirror>(
     rt: &(impl Abort + AllocGlobal),
     mirror: &mut M,
     reads: &Cell<u32>,
-    request: &[u8],
-    expected: &[u8],
-) -> Result<u32, Fail> {
+    asked: &Asked,
+) -> Result<u32, AllocError> {
     let before = reads.get();
-    let response = given(rt.alloc(), mirror, request, None)?;
-    assert_eq!(rt; response.as_slice(), expected);
+    assert!(rt; responds_or_fails(rt, mirror, asked)?);
     Ok(reads.get().saturating_sub(before))
 }
 
-/// The second time a query reads nothing of the file, with its proof or without; where nothing may be kept it reads as much as
-/// the first time.
+/// How often a file is read for a query. The second time nothing is read, with its proof or without; where nothing may be kept as
+/// much as the first time.
+fn reads_of_query(
+    rt: &(impl Abort + AllocGlobal),
+    published: &Published,
+    query: &str,
+) -> Result<u32, Fail> {
+    let alloc = rt.alloc();
+    let answer = asked(alloc, published, "interpreter", query)?;
+    let proof = asked(alloc, published, "checked", query)?;
+    let reads = Cell::new(0_u32);
+    let mut mirror = PackMirror::open(alloc, Counted::new(&published.pack, &reads))?;
+    let first = reads_for(rt, &mut mirror, &reads, &answer)?;
+    assert_eq!(rt; reads_for(rt, &mut mirror, &reads, &answer)?, 0, "{query}");
+    assert_eq!(rt; reads_for(rt, &mut mirror, &reads, &proof)?, 0, "{query}");
+    assert_eq!(rt; reads_unkept(rt, published, &proof)?, [first; 2], "{query}");
+    Ok(first)
+}
+
+/// How often a file is read for a query the first time and the second, where nothing may be kept.
+fn reads_unkept(
+    rt: &(impl Abort + AllocGlobal),
+    published: &Published,
+    asked: &Asked,
+) -> Result<[u32; 2], Fail> {
+    let reads = Cell::new(0_u32);
+    let device = Counted::new(&published.pack, &reads);
+    let mut mirror = PackMirror::open_with_limit(rt.alloc(), device, 0)?;
+    let first = reads_for(rt, &mut mirror, &reads, asked)?;
+    let second = reads_for(rt, &mut mirror, &reads, asked)?;
+    Ok([first, second])
+}
+
 #[test]
 fn kept_nodes_are_not_read(rt: HostRuntime) -> Result<(), Fail> {
-    let alloc = rt.alloc();
-    let snapshot = snapshot(alloc, SET, Edition::Two { sequence: 7 })?;
-    let pack = pack(alloc, &snapshot)?;
-    let reads = Cell::new(0_u32);
+    let published = published(rt.alloc(), SET, Edition::Two { sequence: 7 })?;
     let mut read: u32 = 0;
     for query in QUERIES {
-        let answer = request(alloc, "interpreter", query)?;
-        let proof = request(alloc, "checked", query)?;
-        let of_answer = given(alloc, &mut &snapshot, &answer, None)?;
-        let of_proof = given(alloc, &mut &snapshot, &proof, None)?;
-        let mut mirror = PackMirror::open(alloc, Counted::new(&pack, &reads))?;
-        let first = reads_for(&rt, &mut mirror, &reads, &answer, &of_answer)?;
-        let second = reads_for(&rt, &mut mirror, &reads, &answer, &of_answer)?;
-        let third = reads_for(&rt, &mut mirror, &reads, &proof, &of_proof)?;
-        assert!(rt; second == 0 && third == 0, "{query}");
-        read = read.saturating_add(first);
-        let device = Counted::new(&pack, &reads);
-        let mut mirror = PackMirror::open_with_limit(alloc, device, 0)?;
-        for _ in 0..2_u32 {
-            let all = reads_for(&rt, &mut mirror, &reads, &proof, &of_proof)?;
-            assert_eq!(rt; all, first, "{query}");
-        }
+        read = read.saturating_add(reads_of_query(&rt, &published, query)?);
     }
     assert!(rt; read > 0);
     Ok(())
@@ -373,24 +417,26 @@ fn kept_nodes_are_not_read(rt: HostRuntime) -> Result<(), Fail> {
 #[test]
 fn keeps_the_limit(rt: HostRuntime) -> Result<(), Fail> {
     let alloc = rt.alloc();
-    let many = many_nodes(alloc)?;
-    let snapshot = snapshot(alloc, &many, Edition::One)?;
-    let pack = pack(alloc, &snapshot)?;
-    let small = request(alloc, "interpreter", QUERIES[0])?;
-    let large = request(alloc, "interpreter", QUERIES[3])?;
-    let of_small = given(alloc, &mut &snapshot, &small, None)?;
-    let of_large = given(alloc, &mut &snapshot, &large, None)?;
+    let published = published_many(alloc)?;
+    let small = asked(alloc, &published, "interpreter", QUERIES[0])?;
+    let large = asked(alloc, &published, "interpreter", QUERIES[3])?;
     let reads = Cell::new(0_u32);
-    let device = Counted::new(&pack, &reads);
+    let device = Counted::new(&published.pack, &reads);
     let mut mirror = PackMirror::open_with_limit(alloc, device, 20_000)?;
-    let first = reads_for(&rt, &mut mirror, &reads, &small, &of_small)?;
-    let kept = reads_for(&rt, &mut mirror, &reads, &small, &of_small)?;
+    let first = reads_for(&rt, &mut mirror, &reads, &small)?;
+    let kept = reads_for(&rt, &mut mirror, &reads, &small)?;
     assert!(rt; first > 0 && kept == 0);
-    let all = reads_for(&rt, &mut mirror, &reads, &large, &of_large)?;
+    let all = reads_for(&rt, &mut mirror, &reads, &large)?;
     assert!(rt; all > first);
-    let again = reads_for(&rt, &mut mirror, &reads, &small, &of_small)?;
+    let again = reads_for(&rt, &mut mirror, &reads, &small)?;
     assert_eq!(rt; again, first);
     Ok(())
+}
+
+/// A snapshot of many nodes, and its pack.
+fn published_many(alloc: Global) -> Result<Published, Fail> {
+    let many = many_nodes(alloc)?;
+    published(alloc, &many, Edition::One)
 }
 
 /// Queries of which each keeps a leaf of its own, with 64 nodes, are within the limit one by one, and not together: so what was
@@ -398,11 +444,9 @@ fn keeps_the_limit(rt: HostRuntime) -> Result<(), Fail> {
 #[test]
 fn counts_what_is_kept(rt: HostRuntime) -> Result<(), Fail> {
     let alloc = rt.alloc();
-    let many = many_nodes(alloc)?;
-    let snapshot = snapshot(alloc, &many, Edition::One)?;
-    let pack = pack(alloc, &snapshot)?;
+    let published = published_many(alloc)?;
     let reads = Cell::new(0_u32);
-    let device = Counted::new(&pack, &reads);
+    let device = Counted::new(&published.pack, &reads);
     let mut mirror = PackMirror::open_with_limit(alloc, device, 12_000)?;
     for query in [
         "node(1);out;",
@@ -414,9 +458,8 @@ fn counts_what_is_kept(rt: HostRuntime) -> Result<(), Fail> {
         "node(390);out;",
         "node(1);out;",
     ] {
-        let request = request(alloc, "interpreter", query)?;
-        let expected = given(alloc, &mut &snapshot, &request, None)?;
-        let first = reads_for(&rt, &mut mirror, &reads, &request, &expected)?;
+        let asked = asked(alloc, &published, "interpreter", query)?;
+        let first = reads_for(&rt, &mut mirror, &reads, &asked)?;
         assert!(rt; first > 0, "{query}");
     }
     Ok(())
@@ -426,21 +469,15 @@ fn counts_what_is_kept(rt: HostRuntime) -> Result<(), Fail> {
 #[test]
 fn kept_nodes_answer_for_a_replaced_pack(rt: HostRuntime) -> Result<(), Fail> {
     let alloc = rt.alloc();
-    let snapshot = snapshot(alloc, SET, Edition::One)?;
-    let pack = pack(alloc, &snapshot)?;
+    let published = published(alloc, SET, Edition::One)?;
     let other = other_pack(alloc)?;
-    let kept = request(alloc, "checked", QUERIES[0])?;
-    let more = request(alloc, "checked", QUERIES[3])?;
-    let of_kept = given(alloc, &mut &snapshot, &kept, None)?;
+    let kept = asked(alloc, &published, "checked", QUERIES[0])?;
     // It is opened by two calls, and the manifest and a leaf are read.
-    let mut mirror = PackMirror::open(alloc, Replaced::new(&pack, &other, 4))?;
-    let expected = [of_kept.as_slice(), of_kept.as_slice(), FAILED, FAILED];
-    let (kept, more) = (kept.as_slice(), more.as_slice());
-    let asked = [kept, kept, more, kept];
-    for (request, expected) in asked.into_iter().zip(expected) {
-        let response = given(alloc, &mut mirror, request, None)?;
-        assert_eq!(rt; response.as_slice(), expected);
-    }
+    let mut mirror = PackMirror::open(alloc, Replaced::new(&published.pack, &other, 4))?;
+    assert!(rt; responds_or_fails(&rt, &mut mirror, &kept)?);
+    assert!(rt; responds_or_fails(&rt, &mut mirror, &kept)?);
+    fails(&rt, &mut mirror, "checked", QUERIES[3])?;
+    fails(&rt, &mut mirror, "checked", QUERIES[0])?;
     Ok(())
 }
 
@@ -458,18 +495,14 @@ fn open_again(alloc: Global, pack: &[u8]) -> Result<PackMirror<&[u8]>, PackFault
 #[test]
 fn serves_within_memory(rt: HostRuntime) -> Result<(), Fail> {
     let alloc = rt.alloc();
-    let snapshot = snapshot(alloc, "n1 x1 y2\n", Edition::One)?;
-    let pack = pack(alloc, &snapshot)?;
+    let published = published(alloc, "n1 x1 y2\n", Edition::One)?;
     let mut requests = request(alloc, "interpreter", "node(1);out;")?;
     requests.extend_from_slice(&request(alloc, "checked", "node(1);out;")?)?;
-    let expected = given(alloc, &mut &snapshot, &requests, None)?;
-    let mut mirror = open_again(alloc, &pack)?;
+    let mut mirror = open_again(alloc, &published.pack)?;
     for _ in 0..3_u32 {
-        let responses = match given(alloc, &mut mirror, &requests, None) {
-            Ok(responses) => responses,
-            Err(AllocError) => given(alloc, &mut mirror, &requests, None)?,
-        };
-        assert_eq!(rt; responses.as_slice(), expected.as_slice());
+        if respond_alike(&rt, &published.snapshot, &mut mirror, &requests, None).is_err() {
+            respond_alike(&rt, &published.snapshot, &mut mirror, &requests, None)?;
+        }
     }
     Ok(())
 }

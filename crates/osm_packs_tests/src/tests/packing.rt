@@ -2,10 +2,10 @@
 
 use super::four_objects::{OBJECTS, PACK, ROOT_LINE};
 use super::placing_output::PlacingOutput;
-use osm_packs::pack;
 use opl_codec::{LoadFault, OplCause, OplFault};
 use osm_commands::{CommandFault, Status};
 use osm_index::{Edition, Unwatched};
+use osm_packs::pack;
 use std::io::Cursor;
 use std::test::Fail;
 use test_devices::Stop;

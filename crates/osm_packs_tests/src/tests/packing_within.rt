@@ -2,10 +2,10 @@
 
 use super::four_objects::{OBJECTS, PACK, ROOT_LINE};
 use super::placing_output::PlacingOutput;
-use osm_packs::pack_within;
 use opl_codec::{LoadFault, OplCause, OplFault};
 use osm_commands::CommandFault;
 use osm_index::{Edition, Unwatched};
+use osm_packs::pack_within;
 use scratch_files::ScratchFolder;
 use std::io::{Cursor, Read};
 use std::test::Fail;

@@ -3,10 +3,10 @@
 use super::failing_pack::FailingPack;
 use super::four_objects::{PACK, ROOT};
 use super::placing_output::PlacingOutput;
-use osm_packs::{NotAnswered, query};
 use node_pack::PackFault;
 use osm_commands::Status;
 use osm_forms::Form;
+use osm_packs::{NotAnswered, query};
 use outside_answer::Limits;
 use outside_shelf::Refused;
 use ql_syntax::{QlCause, QlFault};
