@@ -69,7 +69,7 @@ struct Published {
     pack: Vec<u8>,
 }
 
-fn published(alloc: Global, set: &str, edition: Edition) -> Result<Published, Fail> {
+fn publish(alloc: Global, set: &str, edition: Edition) -> Result<Published, Fail> {
     let snapshot = snapshot(alloc, set, edition)?;
     let pack = pack(alloc, &snapshot)?;
     Ok(Published { snapshot, pack })
@@ -102,12 +102,7 @@ struct Asked {
     response: Vec<u8>,
 }
 
-fn asked(
-    alloc: Global,
-    published: &Published,
-    end: &str,
-    query: &str,
-) -> Result<Asked, AllocError> {
+fn ask(alloc: Global, published: &Published, end: &str, query: &str) -> Result<Asked, AllocError> {
     let request = request(alloc, end, query)?;
     let response = given(alloc, &mut &published.snapshot, &request, None)?;
     Ok(Asked { request, response })
@@ -131,7 +126,7 @@ fn serves_as_a_snapshot(
     edition: Edition,
 ) -> Result<(), Fail> {
     let alloc = rt.alloc();
-    let published = published(alloc, set, edition)?;
+    let published = publish(alloc, set, edition)?;
     let mut mirror = PackMirror::open(alloc, published.pack.as_slice())?;
     let requests = all_requests(alloc)?;
     for most in [None, Some(733), Some(732), Some(0)] {
@@ -208,8 +203,8 @@ fn responds_or_fails<M: Mirror>(
 #[test]
 fn turned_bits_make_no_answer(rt: HostRuntime) -> Result<(), Fail> {
     let alloc = rt.alloc();
-    let published = published(alloc, "n1 Ta=b x1 y2\n", Edition::Two { sequence: 7 })?;
-    let asked = asked(alloc, &published, "checked", "node[a];out;")?;
+    let published = publish(alloc, "n1 Ta=b x1 y2\n", Edition::Two { sequence: 7 })?;
+    let asked = ask(alloc, &published, "checked", "node[a];out;")?;
     let pack = published.pack.as_slice();
     let mut spoiled = pack.to_vec(alloc)?;
     let mut responded = 0_usize;
@@ -232,8 +227,8 @@ fn turned_bits_make_no_answer(rt: HostRuntime) -> Result<(), Fail> {
 #[test]
 fn cut_packs_make_no_answer(rt: HostRuntime) -> Result<(), Fail> {
     let alloc = rt.alloc();
-    let published = published(alloc, SET, Edition::One)?;
-    let asked = asked(alloc, &published, "interpreter", QUERIES[0])?;
+    let published = publish(alloc, SET, Edition::One)?;
+    let asked = ask(alloc, &published, "interpreter", QUERIES[0])?;
     let pack = published.pack.as_slice();
     let mut responded = 0_usize;
     for len in 0..pack.len() {
@@ -254,7 +249,7 @@ fn cut_packs_make_no_answer(rt: HostRuntime) -> Result<(), Fail> {
 #[test]
 fn replaced_packs_make_no_answer(rt: HostRuntime) -> Result<(), Fail> {
     let alloc = rt.alloc();
-    let published = published(alloc, SET, Edition::Two { sequence: 7 })?;
+    let published = publish(alloc, SET, Edition::Two { sequence: 7 })?;
     let other = other_pack(alloc)?;
     let mut mirror = PackMirror::open(alloc, Replaced::new(&published.pack, &other, 2))?;
     assert!(rt; mirror.root() == published.snapshot.root());
@@ -303,14 +298,14 @@ fn failed_calls(rt: &(impl Abort + AllocGlobal), pack: &[u8], asked: &Asked) -> 
 #[test]
 fn failing_devices_make_no_answer(rt: HostRuntime) -> Result<(), Fail> {
     let alloc = rt.alloc();
-    let published = published(alloc, SET, Edition::One)?;
+    let published = publish(alloc, SET, Edition::One)?;
     for before in 0..2_u32 {
         let device = Harmful::new(&published.pack, before, Harm::Fails);
         let opened = PackMirror::open(alloc, device);
         assert!(rt; opened.err() == Some(PackFault::Device), "{before}");
     }
     for end in ["interpreter", "checked"] {
-        let asked = asked(alloc, &published, end, QUERIES[0])?;
+        let asked = ask(alloc, &published, end, QUERIES[0])?;
         let failed = failed_calls(&rt, &published.pack, &asked)?;
         assert_eq!(rt; failed, 2, "{end}");
     }
@@ -340,9 +335,9 @@ fn is_well_again(
 #[test]
 fn damaged_reads_are_read_anew(rt: HostRuntime) -> Result<(), Fail> {
     let alloc = rt.alloc();
-    let published = published(alloc, SET, Edition::One)?;
-    let first = asked(alloc, &published, "interpreter", QUERIES[0])?;
-    let second = asked(alloc, &published, "checked", QUERIES[3])?;
+    let published = publish(alloc, SET, Edition::One)?;
+    let first = ask(alloc, &published, "interpreter", QUERIES[0])?;
+    let second = ask(alloc, &published, "checked", QUERIES[3])?;
     for before in 2..4_u32 {
         let mut failed = 0_u32;
         for at in 0..180_usize {
@@ -376,8 +371,8 @@ fn reads_of_query(
     query: &str,
 ) -> Result<u32, Fail> {
     let alloc = rt.alloc();
-    let answer = asked(alloc, published, "interpreter", query)?;
-    let proof = asked(alloc, published, "checked", query)?;
+    let answer = ask(alloc, published, "interpreter", query)?;
+    let proof = ask(alloc, published, "checked", query)?;
     let reads = Cell::new(0_u32);
     let mut mirror = PackMirror::open(alloc, Counted::new(&published.pack, &reads))?;
     let first = reads_for(rt, &mut mirror, &reads, &answer)?;
@@ -403,7 +398,7 @@ fn reads_unkept(
 
 #[test]
 fn kept_nodes_are_not_read(rt: HostRuntime) -> Result<(), Fail> {
-    let published = published(rt.alloc(), SET, Edition::Two { sequence: 7 })?;
+    let published = publish(rt.alloc(), SET, Edition::Two { sequence: 7 })?;
     let mut read: u32 = 0;
     for query in QUERIES {
         read = read.saturating_add(reads_of_query(&rt, &published, query)?);
@@ -418,8 +413,8 @@ fn kept_nodes_are_not_read(rt: HostRuntime) -> Result<(), Fail> {
 fn keeps_the_limit(rt: HostRuntime) -> Result<(), Fail> {
     let alloc = rt.alloc();
     let published = published_many(alloc)?;
-    let small = asked(alloc, &published, "interpreter", QUERIES[0])?;
-    let large = asked(alloc, &published, "interpreter", QUERIES[3])?;
+    let small = ask(alloc, &published, "interpreter", QUERIES[0])?;
+    let large = ask(alloc, &published, "interpreter", QUERIES[3])?;
     let reads = Cell::new(0_u32);
     let device = Counted::new(&published.pack, &reads);
     let mut mirror = PackMirror::open_with_limit(alloc, device, 20_000)?;
@@ -436,7 +431,7 @@ fn keeps_the_limit(rt: HostRuntime) -> Result<(), Fail> {
 /// A snapshot of many nodes, and its pack.
 fn published_many(alloc: Global) -> Result<Published, Fail> {
     let many = many_nodes(alloc)?;
-    published(alloc, &many, Edition::One)
+    publish(alloc, &many, Edition::One)
 }
 
 /// Queries of which each keeps a leaf of its own, with 64 nodes, are within the limit one by one, and not together: so what was
@@ -458,7 +453,7 @@ fn counts_what_is_kept(rt: HostRuntime) -> Result<(), Fail> {
         "node(390);out;",
         "node(1);out;",
     ] {
-        let asked = asked(alloc, &published, "interpreter", query)?;
+        let asked = ask(alloc, &published, "interpreter", query)?;
         let first = reads_for(&rt, &mut mirror, &reads, &asked)?;
         assert!(rt; first > 0, "{query}");
     }
@@ -469,9 +464,9 @@ fn counts_what_is_kept(rt: HostRuntime) -> Result<(), Fail> {
 #[test]
 fn kept_nodes_answer_for_a_replaced_pack(rt: HostRuntime) -> Result<(), Fail> {
     let alloc = rt.alloc();
-    let published = published(alloc, SET, Edition::One)?;
+    let published = publish(alloc, SET, Edition::One)?;
     let other = other_pack(alloc)?;
-    let kept = asked(alloc, &published, "checked", QUERIES[0])?;
+    let kept = ask(alloc, &published, "checked", QUERIES[0])?;
     // It is opened by two calls, and the manifest and a leaf are read.
     let mut mirror = PackMirror::open(alloc, Replaced::new(&published.pack, &other, 4))?;
     assert!(rt; responds_or_fails(&rt, &mut mirror, &kept)?);
@@ -495,7 +490,7 @@ fn open_again(alloc: Global, pack: &[u8]) -> Result<PackMirror<&[u8]>, PackFault
 #[test]
 fn serves_within_memory(rt: HostRuntime) -> Result<(), Fail> {
     let alloc = rt.alloc();
-    let published = published(alloc, "n1 x1 y2\n", Edition::One)?;
+    let published = publish(alloc, "n1 x1 y2\n", Edition::One)?;
     let mut requests = request(alloc, "interpreter", "node(1);out;")?;
     requests.extend_from_slice(&request(alloc, "checked", "node(1);out;")?)?;
     let mut mirror = open_again(alloc, &published.pack)?;
