@@ -55,9 +55,9 @@ build_over_proved() {
     {
         "$kit/bin/rattle" build --crate-name "$name" src/main.rt "${words[@]}" \
             --antt-project "$kit/rattle/logic/antt-project.json" --logic-built "$kit/logic_built" --links "$name=" \
-            --jobs "$(nproc)" --toolchain "$kit/toolchain" --backend llvm -o "out/$name.o"
-        "$kit/bin/rattle-link" --target x86_64-unknown-linux-gnu --toolchain "$kit/toolchain" -o "out/$name" "out/$name.o" \
-            "$kit/c/libos_c.a" "$kit/c/liblibc_c.a"
+            --jobs "$(nproc)" --toolchain "$kit/toolchain" --backend llvm -o "out/$name.o" &&
+            "$kit/bin/rattle-link" --target x86_64-unknown-linux-gnu --toolchain "$kit/toolchain" -o "out/$name" "out/$name.o" \
+                "$kit/c/libos_c.a" "$kit/c/liblibc_c.a"
     } > "$work/build.log" 2>&1 || { tail -n 20 "$work/build.log"; exit 1; }
 }
 
