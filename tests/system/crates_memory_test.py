@@ -25,6 +25,7 @@ MODULES = {
     "osm_model": ("text_tests", "model"),
     "opl_codec": ("text_tests", "codec"),
     "ql_syntax": ("text_tests", "syntax"),
+    "ql_plan": ("text_tests", "plans"),
     "ref_sets": ("text_tests", "sets"),
     "tree_node": ("tree_tests", "nodes"),
     "tree_build": ("tree_tests", "trees"),

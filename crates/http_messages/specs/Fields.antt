@@ -1,6 +1,6 @@
 -- What the fields of a head say of the body and of the connection.
--- Source: RFC 9112, sections 6.1, 6.3 and 9.6, RFC 9110, section 8.4; the refusals and the limits are this project's, and that several fields of one name
--- have no only value.
+-- Source: RFC 9112, sections 6.1, 6.3 and 9.6, RFC 9110, section 8.4; the refusals and the limits are this project's,
+-- and that several fields of one name have no only value.
 use Rattle.std.specs.Prelude.{ℕ, Bool, ◌&&◌, ◌||◌, List, [], ◌∷◌, map, length, Option, Some, None, Result, Ok, Err, if◌then◌else◌, ◌==◌, nat_lt, nat_le, codes}
 use Rattle.std.specs.List.{list_all, list_any, slice_split}
 use Rattle.std.specs.Str.{bytes_eq}

@@ -15,6 +15,3 @@ pub use counting::is_counted;
 pub use laws::{choice_stays_among_rivals, one_choice, one_plan, rest_and_base};
 pub use planned::Plan;
 pub use planner::plan;
-
-#[cfg(test)]
-mod tests;

@@ -1,6 +1,6 @@
 //! Rows of statements and their plans.
 
-use crate::{Plan, plan};
+use ql_plan::{Plan, plan};
 use ql_syntax::{Filter, Query, Stmt, parse};
 use std::process::Abort;
 use std::test::Fail;
