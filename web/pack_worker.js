@@ -41,8 +41,8 @@ async function answer(module, asked, signal, say) {
 
 /** Asks the library, fetches what it misses, and asks it again, until it misses nothing. */
 async function answered(module, asked, file, signal, say) {
-  for (let guess = asked.guess; ; ) {
-    const found = judged(module, asked, file, guess);
+  for (;;) {
+    const found = judged(module, asked, file);
     if (found.status !== "more") return found;
     await file.bring(spansIn(found.document), signal, ({ requests, received }) => say({ requests, received }));
   }

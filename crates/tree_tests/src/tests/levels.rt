@@ -11,7 +11,7 @@ use std::process::Abort;
 use std::rc::Rc;
 use std::test::Fail;
 use tree_build::{Entry, Shape};
-use tree_node::{Shelf, Stock, Tree, digest_of};
+use tree_node::{Digest, Shelf, Stock, Tree, digest_of};
 use tree_stream::{NodeLevels, ReadBackFault, StreamFault, WriterFault};
 
 /// Keeps runs in memory, and refuses each call after so many, which are counted for all stores.
@@ -134,13 +134,26 @@ fn stored(
     is_spoiled: bool,
 ) -> Result<FinishedTrees<Kept>, StreamFault> {
     let mut trees = builder(alloc, shape, calls, is_spoiled)?;
-    for entry in entries {
-        trees.push(Tree::Tags, entry.key, entry.value)?;
-    }
-    for entry in entries.iter().take(1) {
-        trees.push(Tree::Backs, entry.key, entry.value)?;
-    }
+    push_all(&mut trees, Tree::Tags, entries)?;
+    push_all(&mut trees, Tree::Backs, first_of(entries))?;
     Ok(trees.finish()?)
+}
+
+/// Gives these entries to a tree.
+fn push_all(
+    trees: &mut TreesBuilder<Kept, Disk>,
+    tree: Tree,
+    entries: &[Entry<'_>],
+) -> Result<(), StreamFault> {
+    for entry in entries {
+        trees.push(tree, entry.key, entry.value)?;
+    }
+    Ok(())
+}
+
+/// The first of some entries, or none.
+fn first_of<'s, 'e>(entries: &'s [Entry<'e>]) -> &'s [Entry<'e>] {
+    &entries[..entries.len().min(1)]
 }
 
 /// Reads the nodes of a level, which are in the stock, and their lengths. Gives how many there are, and how many children
@@ -223,13 +236,25 @@ fn keeps_trees_apart(rt: HostRuntime) -> Result<(), Fail> {
     let calls = Rc::new(alloc, Cell::new(u64::MAX))?;
     let mut trees = stored(alloc, entries.as_slice(), Shape::One, &calls, false)?;
     assert!(rt; trees.heights == [1, 2, 1, 1]);
-    let mut stock = Stock::new(alloc);
-    let one = &entries[..entries.len().min(1)];
-    assert!(rt; trees.tops[3] == built(alloc, one, Tree::Backs, Shape::One, &mut stock)?);
-    assert!(rt; trees.tops[0] == built(alloc, &[], Tree::Objects, Shape::One, &mut stock)?);
-    assert!(rt; trees.tops[2] == built(alloc, &[], Tree::Cells, Shape::One, &mut stock)?);
+    assert!(rt; has_tops(alloc, trees.tops, entries.as_slice())?);
     assert!(rt; has_empty_leaf(alloc, &mut trees)?);
     Ok(())
+}
+
+/// Whether these are the tops of the other trees, of which the fourth has the first of the entries.
+fn has_tops(alloc: Global, tops: [Digest; 4], entries: &[Entry<'_>]) -> Result<bool, Fail> {
+    let [objects, _, cells, backs] = tops;
+    Ok(
+        objects == top_of(alloc, Tree::Objects, &[])?
+            && cells == top_of(alloc, Tree::Cells, &[])?
+            && backs == top_of(alloc, Tree::Backs, first_of(entries))?,
+    )
+}
+
+/// The digest of the top of the tree of these entries.
+fn top_of(alloc: Global, tree: Tree, entries: &[Entry<'_>]) -> Result<Digest, Fail> {
+    let mut stock = Stock::new(alloc);
+    built(alloc, entries, tree, Shape::One, &mut stock)
 }
 
 /// Whether the only node of the third tree is a leaf without entries.

@@ -5,7 +5,7 @@ use super::changed;
 use super::writing::{put_manifest, small_stock};
 use bumpalo::Bump;
 use node_pack::{PackSource, Place, ReadAt, ReadFault, write_pack};
-use outside_shelf::{NodeSource, OutsideShelf, Refused};
+use outside_shelf::{NodeSource, OutsideShelf, Refused, SourceFault};
 use std::alloc::Global;
 use std::cell::Cell;
 use std::process::Abort;
@@ -120,16 +120,13 @@ fn expects_what_is_led_to(rt: HostRuntime) -> Result<(), Fail> {
         ("b", "c", 2, 2),
     ] {
         let seen = Seen::new();
-        let mut into = Vec::new(rt.alloc());
         let mut source = PackSource::open(rt.alloc(), Remote::new(rt.alloc(), PACK, &seen))?;
-        source.read_node(&ROOT, 1000, &mut into)?;
+        assert!(rt; gives(rt.alloc(), &mut source, &ROOT, NODES[0].2)?);
         // The header and the manifest.
         assert_eq!(rt; seen.sudden.get(), 2);
         for _ in 0..2 {
             source.announce(&NODES[1].0, lo.as_bytes(), hi.as_bytes());
-            into.clear();
-            source.read_node(&NODES[1].0, 1000, &mut into)?;
-            assert_eq!(rt; into.as_slice(), NODES[1].2);
+            assert!(rt; gives(rt.alloc(), &mut source, &NODES[1].0, NODES[1].2)?);
             assert_eq!(rt; seen.rounds.get(), rounds, "{lo} {hi}");
             assert_eq!(rt; seen.places.get(), places, "{lo} {hi}");
         }
@@ -137,6 +134,18 @@ fn expects_what_is_led_to(rt: HostRuntime) -> Result<(), Fail> {
         assert_eq!(rt; seen.sudden.get(), 2);
     }
     Ok(())
+}
+
+/// Whether a source gives this node for a digest.
+fn gives(
+    alloc: Global,
+    source: &mut PackSource<Remote<'_>>,
+    key: &Digest,
+    node: &[u8],
+) -> Result<bool, SourceFault> {
+    let mut into = Vec::new(alloc);
+    source.read_node(key, 1000, &mut into)?;
+    Ok(into.as_slice() == node)
 }
 
 /// Puts a node of the tree of tags above these four children, each beside its greatest key, and gives its digest.

@@ -9,7 +9,7 @@ use std::alloc::Global;
 use std::io;
 use std::io::Write;
 use std::test::Fail;
-use tree_node::{Digest, Shelf, Stock};
+use tree_node::{Digest, Shelf, ShelfFault, Stock};
 
 /// A stock with the nodes of the pack; none where memory is refused.
 pub(super) fn small_stock(alloc: Global) -> Option<Stock> {
@@ -211,22 +211,11 @@ fn tells_a_malformed_node(rt: HostRuntime) -> Result<(), Fail> {
 fn writes_shared_nodes_once(rt: HostRuntime) -> Result<(), Fail> {
     let [_, tags, objects, leaf, other, cells, backs] = &NODES;
     let mut stock = small_stock(rt.alloc()).ok_or("no memory")?;
-    let lower = put_inner(rt.alloc(), &mut stock, 1, [other.0, leaf.0])?;
-    let upper = put_inner(rt.alloc(), &mut stock, 2, [tags.0, lower])?;
-    let same = put_inner(rt.alloc(), &mut stock, 2, [lower, tags.0])?;
-    let top = put_inner(rt.alloc(), &mut stock, 3, [upper, same])?;
-    let root = put_manifest(rt.alloc(), &mut stock, [objects.0, top, cells.0, backs.0])?;
-    let mut pack = Vec::new(rt.alloc());
-    let mut shelf = stock.shelf(rt.alloc());
-    write_pack(rt.alloc(), &mut shelf, &root, &mut pack)?;
+    let [root, top, upper, same, lower] = put_shared(rt.alloc(), &mut stock)?;
+    let pack = packed(rt.alloc(), &stock, &root)?;
     // The header, the records of the manifest, the six nodes with two children each, and five leaves.
     assert_eq!(rt; pack.len(), 60 + 185 + 5 * 118 + 3 * 8 + 2 * 15);
-    let arena = Bump::new(rt.alloc());
-    let source = PackSource::open(rt.alloc(), pack.as_slice())?;
-    let mut given = OutsideShelf::new(rt.alloc(), &arena, source, None);
-    let mut own = stock.shelf(rt.alloc());
-    let mut rest = after(pack.as_slice(), 60);
-    for (key, children) in [
+    let records = [
         (root, 4),
         (top, 2),
         (upper, 2),
@@ -238,15 +227,68 @@ fn writes_shared_nodes_once(rt: HostRuntime) -> Result<(), Fail> {
         (other.0, 0),
         (cells.0, 0),
         (backs.0, 0),
-    ] {
-        let node = own.fetch(&key)?;
-        assert!(rt; given.fetch(&key) == Ok(node));
-        assert!(rt; after(rest, 4).starts_with(node));
-        let table = 12_usize.saturating_mul(children);
+    ];
+    assert!(rt; has_records(rt.alloc(), &stock, pack.as_slice(), &records)?);
+    assert!(rt; gives_nodes(rt.alloc(), &stock, pack.as_slice(), &records)?);
+    Ok(())
+}
+
+/// Puts a tree of tags in which both nodes under the top refer to the same two: the digests of the manifest, the top, these
+/// two, and the one that is new below them.
+fn put_shared(alloc: Global, stock: &mut Stock) -> Result<[Digest; 5], Fail> {
+    let [_, tags, objects, leaf, other, cells, backs] = &NODES;
+    let lower = put_inner(alloc, stock, 1, [other.0, leaf.0])?;
+    let upper = put_inner(alloc, stock, 2, [tags.0, lower])?;
+    let same = put_inner(alloc, stock, 2, [lower, tags.0])?;
+    let top = put_inner(alloc, stock, 3, [upper, same])?;
+    let root = put_manifest(alloc, stock, [objects.0, top, cells.0, backs.0])?;
+    Ok([root, top, upper, same, lower])
+}
+
+/// The pack of the nodes under a root.
+fn packed(alloc: Global, stock: &Stock, root: &Digest) -> Result<Vec<u8>, WriteFault> {
+    let mut pack = Vec::new(alloc);
+    let mut shelf = stock.shelf(alloc);
+    write_pack(alloc, &mut shelf, root, &mut pack)?;
+    Ok(pack)
+}
+
+/// Whether a pack has the records of these nodes after its header, each with room for so many children, and nothing else.
+fn has_records(
+    alloc: Global,
+    stock: &Stock,
+    pack: &[u8],
+    records: &[(Digest, usize)],
+) -> Result<bool, ShelfFault> {
+    let mut shelf = stock.shelf(alloc);
+    let mut rest = after(pack, 60);
+    for (key, children) in records {
+        let node = shelf.fetch(key)?;
+        if !after(rest, 4).starts_with(node) {
+            return Ok(false);
+        }
+        let table = 12_usize.saturating_mul(*children);
         rest = after(rest, table.saturating_add(4).saturating_add(node.len()));
     }
-    assert!(rt; rest.is_empty());
-    Ok(())
+    Ok(rest.is_empty())
+}
+
+/// Whether a shelf over the pack gives these nodes, from the root down.
+fn gives_nodes(
+    alloc: Global,
+    stock: &Stock,
+    pack: &[u8],
+    records: &[(Digest, usize)],
+) -> Result<bool, Fail> {
+    let arena = Bump::new(alloc);
+    let mut own = stock.shelf(alloc);
+    let mut given = OutsideShelf::new(alloc, &arena, PackSource::open(alloc, pack)?, None);
+    for (key, _) in records {
+        if given.fetch(key)? != own.fetch(key)? {
+            return Ok(false);
+        }
+    }
+    Ok(true)
 }
 
 /// The bytes after so many.

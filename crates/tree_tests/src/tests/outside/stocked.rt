@@ -3,10 +3,13 @@
 use super::{LAST, LAST_KEY, LEAF, LEAF_KEY, Listed, TOP, TOP_KEY, TREE, Turned};
 use bumpalo::Bump;
 use outside_shelf::{NodeSource, ProofShelf, Refused, SourceFault, StockedShelf};
-use std::alloc::Global;
+use std::alloc::{AllocError, Global};
 use std::process::Abort;
 use std::test::Fail;
-use tree_node::{Digest, NewNode, Part, Shelf, ShelfFault, Stock};
+use tree_node::{Digest, NewNode, Shelf, ShelfFault, Stock};
+
+/// The nodes of the tree, each after its digest, as a proof lists them: by rising digest.
+const RISING: [(Digest, &[u8]); 3] = [(TOP_KEY, TOP), (LAST_KEY, LAST), (LEAF_KEY, LEAF)];
 
 /// Has no node.
 #[derive(Drop)]
@@ -32,9 +35,19 @@ fn stock_of_leaf(alloc: Global) -> Result<Stock, Fail> {
     Ok(stock)
 }
 
-/// The nodes that were used, as a proof lists them.
-fn used<'a>(alloc: Global, shelf: &impl ProofShelf<'a>) -> Result<Vec<Part<'a>>, Fail> {
-    Ok(shelf.used_parts(alloc)?)
+/// Whether these are the nodes that were used, each after its digest, as a proof lists them.
+fn has_used<'a>(
+    alloc: Global,
+    shelf: &impl ProofShelf<'a>,
+    wanted: &[(Digest, &[u8])],
+) -> Result<bool, AllocError> {
+    let parts = shelf.used_parts(alloc)?;
+    for (part, (key, node)) in parts.iter().zip(wanted) {
+        if part.digest() != *key || part.bytes() != *node {
+            return Ok(false);
+        }
+    }
+    Ok(parts.len() == wanted.len())
 }
 
 /// A node of the stock is given without a source that has it, and counts as used only then. The reason of a refusal is told
@@ -44,18 +57,26 @@ fn gives_nodes_of_the_stock(rt: HostRuntime) -> Result<(), Fail> {
     let arena = Bump::new(rt.alloc());
     let stock = stock_of_leaf(rt.alloc())?;
     let mut shelf = StockedShelf::new(rt.alloc(), &stock, &arena, Bare, Some(5));
-    assert!(rt; used(rt.alloc(), &shelf)?.is_empty());
+    gives_the_leaf(&rt, rt.alloc(), &mut shelf)?;
+    assert!(rt; shelf.left() == Some(5) && shelf.brought_len() == 0);
+    assert!(rt; shelf.brought(rt.alloc())?.is_empty());
+    Ok(())
+}
+
+/// Fetches what the stock hasn't, and then what it has.
+fn gives_the_leaf(
+    rt: &impl Abort,
+    alloc: Global,
+    shelf: &mut StockedShelf<'_, Bare>,
+) -> Result<(), Fail> {
+    assert!(rt; has_used(alloc, shelf, &[])?);
     assert!(rt; shelf.fetch(&LAST_KEY) == Err(ShelfFault::Missing));
     assert_eq!(rt; shelf.reason(), Some(Refused::Absent));
-    assert!(rt; shelf.fetch(&LEAF_KEY) == Ok(LEAF));
+    assert!(rt; shelf.fetch(&LEAF_KEY)? == LEAF);
     assert_eq!(rt; shelf.reason(), None);
     let leaf = shelf.fetch_node(&LEAF_KEY)?;
     assert!(rt; leaf.bytes == LEAF && leaf.read.is_ok());
-    let parts = used(rt.alloc(), &shelf)?;
-    assert!(rt; parts.len() == 1 && parts[0].bytes() == LEAF);
-    assert_eq!(rt; shelf.left(), Some(5));
-    assert_eq!(rt; shelf.brought_len(), 0);
-    assert!(rt; shelf.brought(rt.alloc())?.is_empty());
+    assert!(rt; has_used(alloc, shelf, &[(LEAF_KEY, LEAF)])?);
     Ok(())
 }
 
@@ -65,20 +86,23 @@ fn brings_what_the_stock_has_not(rt: HostRuntime) -> Result<(), Fail> {
     let arena = Bump::new(rt.alloc());
     let stock = stock_of_leaf(rt.alloc())?;
     let mut shelf = StockedShelf::new(rt.alloc(), &stock, &arena, Listed, Some(1000));
-    for (key, node) in TREE.iter().chain(&TREE) {
-        assert!(rt; shelf.fetch(key) == Ok(*node));
-        assert!(rt; shelf.fetch_node(key)?.bytes == *node);
-    }
+    gives_the_tree(&rt, &mut shelf)?;
+    gives_the_tree(&rt, &mut shelf)?;
     // The top has 90 bytes, and the last leaf 11.
     assert_eq!(rt; shelf.left(), Some(899));
     assert_eq!(rt; shelf.brought_len(), 101);
-    let parts = used(rt.alloc(), &shelf)?;
-    assert_eq!(rt; parts.len(), 3);
-    for (part, (key, node)) in parts
-        .iter()
-        .zip([(TOP_KEY, TOP), (LAST_KEY, LAST), (LEAF_KEY, LEAF)])
-    {
-        assert!(rt; part.digest() == key && part.bytes() == node);
+    assert!(rt; has_used(rt.alloc(), &shelf, &RISING)?);
+    Ok(())
+}
+
+/// Fetches each node of the tree.
+fn gives_the_tree<'a, N: NodeSource + Drop>(
+    rt: &impl Abort,
+    shelf: &mut StockedShelf<'a, N>,
+) -> Result<(), ShelfFault> {
+    for (key, node) in &TREE {
+        assert!(rt; shelf.fetch(key)? == *node);
+        assert!(rt; shelf.fetch_node(key)?.bytes == *node);
     }
     Ok(())
 }
@@ -87,9 +111,7 @@ fn brings_what_the_stock_has_not(rt: HostRuntime) -> Result<(), Fail> {
 fn copies_of_tree(rt: &impl Abort, alloc: Global, stock: &Stock) -> Result<Vec<NewNode>, Fail> {
     let arena = Bump::new(alloc);
     let mut shelf = StockedShelf::new(alloc, stock, &arena, Listed, None);
-    for (key, node) in &TREE {
-        assert!(rt; shelf.fetch(key)? == *node);
-    }
+    gives_the_tree(rt, &mut shelf)?;
     Ok(shelf.brought(alloc)?)
 }
 
@@ -104,11 +126,9 @@ fn keeps_what_was_brought_within_memory(rt: HostRuntime) -> Result<(), Fail> {
     }
     let arena = Bump::new(rt.alloc());
     let mut shelf = StockedShelf::new(rt.alloc(), &stock, &arena, Bare, Some(0));
-    for (key, node) in &TREE {
-        assert!(rt; shelf.fetch(key)? == *node);
-    }
+    gives_the_tree(&rt, &mut shelf)?;
     assert_eq!(rt; shelf.left(), Some(0));
-    assert_eq!(rt; used(rt.alloc(), &shelf)?.len(), 3);
+    assert!(rt; has_used(rt.alloc(), &shelf, &RISING)?);
     Ok(())
 }
 
@@ -122,7 +142,7 @@ fn refuses_what_is_not_the_node(rt: HostRuntime) -> Result<(), Fail> {
     assert!(rt; shelf.fetch(&LEAF_KEY) == Err(ShelfFault::Missing));
     assert_eq!(rt; shelf.reason(), Some(Refused::Other));
     assert_eq!(rt; shelf.left(), Some(989));
-    assert!(rt; used(rt.alloc(), &shelf)?.is_empty());
+    assert!(rt; has_used(rt.alloc(), &shelf, &[])?);
     assert!(rt; shelf.brought(rt.alloc())?.is_empty());
     assert!(rt; shelf.fetch(&LEAF_KEY) == Ok(LEAF));
     assert_eq!(rt; shelf.brought_len(), 11);
