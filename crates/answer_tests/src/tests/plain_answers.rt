@@ -64,11 +64,11 @@ fn memory_refused_changes_no_meaning(rt: HostRuntime) -> Result<(), Fail> {
     let set = read_set(rt.alloc(), &mut texts_of_sets::ALL_KINDS.as_bytes())?;
     for (text, wanted, _) in query_rows::OVER_ALL_KINDS {
         let query = parse(rt.alloc(), text.as_bytes())?;
-        if let Ok(answer) = answer_plain(rt.alloc(), &query, &set) {
-            assert_eq!(rt; answer.as_slice(), wanted.as_bytes(), "{text}");
-        }
-        let again = answer_plain(rt.alloc(), &query, &set)?;
-        assert_eq!(rt; again.as_slice(), wanted.as_bytes(), "{text} again");
+        let answer = match answer_plain(rt.alloc(), &query, &set) {
+            Ok(answer) => answer,
+            Err(_) => answer_plain(rt.alloc(), &query, &set)?,
+        };
+        assert_eq!(rt; answer.as_slice(), wanted.as_bytes(), "{text}");
     }
     Ok(())
 }

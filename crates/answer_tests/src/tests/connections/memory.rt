@@ -5,7 +5,7 @@ use crate::tests::snapshot_of;
 use crate::tests::texts_of_sets::ALL_KINDS;
 use osm_gate::{Gate, GateFault, serve};
 use osm_index::{Edition, Snapshot};
-use std::alloc::Global;
+use std::alloc::{AllocError, Global};
 use std::io;
 use std::io::Write;
 use std::process::Abort;
@@ -47,22 +47,43 @@ fn feed_twice(
     Ok(gate.feed(piece, snapshot)?)
 }
 
+/// These texts, one after the other.
+fn joined(alloc: Global, texts: &[&[u8]]) -> Result<Vec<u8>, AllocError> {
+    let mut whole = Vec::new(alloc);
+    for text in texts {
+        whole.extend_from_slice(text)?;
+    }
+    Ok(whole)
+}
+
+/// Feeds these texts as one piece, after which these responses come.
+fn check_fed(
+    rt: &(impl Abort + AllocGlobal),
+    gate: &mut Gate,
+    texts: &[&[u8]],
+    snapshot: &Snapshot,
+    wanted: &[&[u8]],
+) -> Result<(), Fail> {
+    let piece = joined(rt.alloc(), texts)?;
+    let responses = feed_twice(rt, gate, &piece, snapshot)?;
+    assert_eq!(rt; responses, joined(rt.alloc(), wanted)?);
+    Ok(())
+}
+
+/// Half a request, and the other half with a whole one after it.
 #[test]
 fn feeds_within_memory(rt: HostRuntime) -> Result<(), Fail> {
-    let alloc = rt.alloc();
-    let snapshot = snapshot_of(alloc, ALL_KINDS, Edition::One)?;
-    let mut gate = Gate::new(alloc)?;
-    // Half a request, and the other half with a whole one after it.
+    let snapshot = snapshot_of(rt.alloc(), ALL_KINDS, Edition::One)?;
+    let mut gate = Gate::new(rt.alloc())?;
     let (first, half) = SENT.split_at(40);
-    let responses = feed_twice(&rt, &mut gate, first, &snapshot)?;
-    assert_eq!(rt; responses.len(), 0);
-    let mut second = half.to_vec(alloc)?;
-    second.extend_from_slice(SENT)?;
-    let responses = feed_twice(&rt, &mut gate, &second, &snapshot)?;
-    let (one, other) = responses.split_at(responses.len() / 2);
-    assert_eq!(rt; one, RESPONSE);
-    assert_eq!(rt; other, RESPONSE);
-    Ok(())
+    check_fed(&rt, &mut gate, &[first], &snapshot, &[])?;
+    check_fed(
+        &rt,
+        &mut gate,
+        &[half, SENT],
+        &snapshot,
+        &[RESPONSE, RESPONSE],
+    )
 }
 
 /// A writer that takes no memory.
@@ -90,10 +111,7 @@ impl Write for FixedWriter {
 
 /// Whether the writer has got these texts and nothing else.
 fn has_got(alloc: Global, writer: &FixedWriter, texts: &[&[u8]]) -> Result<bool, Fail> {
-    let mut whole = Vec::new(alloc);
-    for text in texts {
-        whole.extend_from_slice(text)?;
-    }
+    let whole = joined(alloc, texts)?;
     Ok(writer.taken.get(..writer.len) == Some(whole.as_slice()))
 }
 

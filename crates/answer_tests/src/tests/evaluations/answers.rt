@@ -20,14 +20,25 @@ fn check_rows(rt: &(impl Abort + AllocGlobal), set: &str, rows: &[Row]) -> Resul
         let snapshot = snapshot_of(rt.alloc(), set, edition)?;
         for (text, wanted, nodes) in rows {
             let query = parse(rt.alloc(), text.as_bytes())?;
-            let mut shelf = Recorder::new(rt.alloc(), snapshot.stock());
-            let mut answer = Vec::new(rt.alloc());
-            evaluate(rt.alloc(), &query, snapshot.root(), &mut shelf, &mut answer)?;
-            assert_eq!(rt; answer.as_slice(), wanted.as_bytes(), "{text}");
-            assert_eq!(rt; Some(&shelf.parts()?.len()), nodes.get(place), "{text}");
+            let used = check_answer(rt, &query, &snapshot, wanted)?;
+            assert_eq!(rt; Some(&used), nodes.get(place), "{text}");
         }
     }
     Ok(())
+}
+
+/// Whether this is the answer to a query. Gives how many nodes it uses.
+fn check_answer(
+    rt: &(impl Abort + AllocGlobal),
+    query: &Query<'_>,
+    snapshot: &Snapshot,
+    wanted: &str,
+) -> Result<usize, Fail> {
+    let mut shelf = Recorder::new(rt.alloc(), snapshot.stock());
+    let mut answer = Vec::new(rt.alloc());
+    evaluate(rt.alloc(), query, snapshot.root(), &mut shelf, &mut answer)?;
+    assert_eq!(rt; answer.as_slice(), wanted.as_bytes());
+    Ok(shelf.parts()?.len())
 }
 
 #[test]

@@ -2,9 +2,9 @@
 
 use crate::tests::evaluations::counting::Counting;
 use crate::tests::{snapshot_of, texts_of_sets};
-use osm_index::Edition;
+use osm_index::{Edition, Snapshot};
 use ql_eval::{Report, evaluate};
-use ql_syntax::parse;
+use ql_syntax::{Query, parse};
 use std::process::Abort;
 use std::test::Fail;
 
@@ -42,20 +42,32 @@ fn check_rows(rt: &(impl Abort + AllocGlobal), set: &str, rows: &[Row]) -> Resul
     let snapshot = snapshot_of(alloc, set, Edition::One)?;
     for (text, ranges, fetched) in rows {
         let query = parse(alloc, text.as_bytes())?;
-        let mut shelf = Counting {
-            shelf: snapshot.stock().shelf(alloc),
-            fetches: 0,
-        };
-        let mut answer = Vec::new(alloc);
-        let report = evaluate(alloc, &query, snapshot.root(), &mut shelf, &mut answer)?;
-        let wanted = Report {
-            ranges: *ranges,
-            fetched: *fetched,
-            work: report.work,
-        };
-        assert_eq!(rt; report, wanted, "{text}");
-        // The shelf gives the manifest too.
-        assert_eq!(rt; Some(shelf.fetches), fetched.checked_add(1), "{text}");
+        check_counts(rt, &query, &snapshot, *ranges, *fetched)?;
     }
+    Ok(())
+}
+
+/// Whether a query walks so often, and fetches so many nodes besides the manifest.
+fn check_counts(
+    rt: &(impl Abort + AllocGlobal),
+    query: &Query<'_>,
+    snapshot: &Snapshot,
+    ranges: u64,
+    fetched: u64,
+) -> Result<(), Fail> {
+    let mut shelf = Counting {
+        shelf: snapshot.stock().shelf(rt.alloc()),
+        fetches: 0,
+    };
+    let mut answer = Vec::new(rt.alloc());
+    let report = evaluate(rt.alloc(), query, snapshot.root(), &mut shelf, &mut answer)?;
+    let wanted = Report {
+        ranges,
+        fetched,
+        work: report.work,
+    };
+    assert_eq!(rt; report, wanted);
+    // The shelf gives the manifest too.
+    assert_eq!(rt; Some(shelf.fetches), fetched.checked_add(1));
     Ok(())
 }

@@ -63,11 +63,25 @@ fn check_row(
 
 fn check_rows(rt: &(impl Abort + AllocGlobal), set: &str, rows: &[Row]) -> Result<(), Fail> {
     let objects = read_set(rt.alloc(), &mut set.as_bytes())?;
-    let first = snapshot_of(rt.alloc(), set, Edition::One)?;
-    let second = snapshot_of(rt.alloc(), set, Edition::Two { sequence: 7 })?;
+    check_edition(rt, &objects, set, Edition::One, rows)?;
+    check_edition(rt, &objects, set, Edition::Two { sequence: 7 }, rows)
+}
+
+/// Whether the rows hold over the trees of the set in this edition.
+fn check_edition(
+    rt: &(impl Abort + AllocGlobal),
+    objects: &ObjectSet,
+    set: &str,
+    edition: Edition,
+    rows: &[Row],
+) -> Result<(), Fail> {
+    let snapshot = snapshot_of(rt.alloc(), set, edition)?;
     for (text, told, told_later) in rows {
-        check_row(rt, &objects, &first, text, told)?;
-        check_row(rt, &objects, &second, text, told_later)?;
+        let told = match edition {
+            Edition::One => told,
+            Edition::Two { .. } => told_later,
+        };
+        check_row(rt, objects, &snapshot, text, told)?;
     }
     Ok(())
 }
