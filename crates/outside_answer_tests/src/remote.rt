@@ -12,6 +12,7 @@ use ql_eval::EvalFault;
 use ql_syntax::parse;
 use std::alloc::Global;
 use std::cell::Cell;
+use std::process::Abort;
 use std::test::Fail;
 use tree_node::{Digest, Shelf};
 
@@ -181,45 +182,70 @@ fn levels(alloc: Global, snapshot: &Snapshot, top: &Digest) -> Result<u32, Fail>
     }
 }
 
+/// The trees of many objects.
+fn many_objects(alloc: Global) -> Result<Snapshot, Fail> {
+    let text = many_nodes(alloc)?;
+    let set = read_set(alloc, &mut text.as_slice())?;
+    Ok(Snapshot::build(alloc, set, Edition::Two { sequence: 7 })?)
+}
+
+/// The pack of a snapshot.
+fn packed(alloc: Global, snapshot: &Snapshot) -> Result<Vec<u8>, Fail> {
+    let mut pack = Vec::new(alloc);
+    let mut shelf = snapshot.stock().shelf(alloc);
+    write_pack(alloc, &mut shelf, snapshot.root(), &mut pack)?;
+    Ok(pack)
+}
+
+/// What a query means over a pack.
+fn answered<F: ReadAt + Drop>(
+    rt: &(impl Abort + AllocGlobal),
+    file: F,
+    root: &Digest,
+    text: &str,
+) -> Result<Vec<u8>, Fail> {
+    let mut into = Vec::new(rt.alloc());
+    let told = answer(rt.alloc(), file, root, text, &mut into)?;
+    assert!(rt; told.is_ok(), "{text}");
+    Ok(into)
+}
+
+/// Whether a query over a pack far away takes so many rounds, and has the answer of the pack at hand.
+fn check_rounds(
+    rt: &(impl Abort + AllocGlobal),
+    pack: &[u8],
+    root: &Digest,
+    text: &str,
+    rounds: u32,
+) -> Result<(), Fail> {
+    let seen = Seen::new();
+    let near = answered(rt, pack, root, text)?;
+    let far = answered(rt, Remote::new(rt.alloc(), pack, &seen), root, text)?;
+    assert!(rt; far == near, "{text}");
+    assert_eq!(rt; seen.rounds.get(), rounds, "{text}");
+    assert_eq!(rt; seen.sudden.get(), 2, "{text}");
+    assert_eq!(rt; seen.again.get(), 0, "{text}");
+    Ok(())
+}
+
 /// From the pack of many objects far away come the answers of the pack at hand, with a round for each level of the trees that a
 /// query needs.
 #[test]
 fn takes_a_round_a_level(rt: HostRuntime) -> Result<(), Fail> {
-    let alloc = rt.alloc();
-    let text = many_nodes(alloc)?;
-    let set = read_set(alloc, &mut text.as_slice())?;
-    let snapshot = Snapshot::build(alloc, set, Edition::Two { sequence: 7 })?;
-    let root = *snapshot.root();
-    let mut pack = Vec::new(alloc);
-    let mut shelf = snapshot.stock().shelf(alloc);
-    write_pack(alloc, &mut shelf, &root, &mut pack)?;
+    let snapshot = many_objects(rt.alloc())?;
     let [objects, tags, cells, _] = snapshot.manifest().tops;
-    let objects = levels(alloc, &snapshot, &objects)?;
-    let tags = levels(alloc, &snapshot, &tags)?;
-    let cells = levels(alloc, &snapshot, &cells)?;
+    let objects = levels(rt.alloc(), &snapshot, &objects)?;
+    let tags = levels(rt.alloc(), &snapshot, &tags)?;
+    let cells = levels(rt.alloc(), &snapshot, &cells)?;
     assert!(rt; objects > 2);
+    let pack = packed(rt.alloc(), &snapshot)?;
     for (text, rounds) in [
         ("node(1500);out;", objects),
         ("node(4000);out;", 1),
         ("node[k=7];out;", tags.saturating_add(objects)),
         ("node(10,20,30,40);out;", cells.saturating_add(objects)),
     ] {
-        let seen = Seen::new();
-        let mut far = Vec::new(alloc);
-        let mut near = Vec::new(alloc);
-        let remote = Remote::new(alloc, pack.as_slice(), &seen);
-        assert!(rt;
-            answer(alloc, remote, &root, text, &mut far)?.is_ok(),
-            "{text}"
-        );
-        assert!(rt;
-            answer(alloc, pack.as_slice(), &root, text, &mut near)?.is_ok(),
-            "{text}"
-        );
-        assert!(rt; far == near, "{text}");
-        assert_eq!(rt; seen.rounds.get(), rounds, "{text}");
-        assert_eq!(rt; seen.sudden.get(), 2, "{text}");
-        assert_eq!(rt; seen.again.get(), 0, "{text}");
+        check_rounds(&rt, pack.as_slice(), snapshot.root(), text, rounds)?;
     }
     Ok(())
 }

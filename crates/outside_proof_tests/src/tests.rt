@@ -5,7 +5,7 @@ use bumpalo::Bump;
 use node_pack::{PackSource, write_pack};
 use opl_codec::read_set;
 use osm_index::{Edition, Snapshot};
-use osm_prove::{prove, read_proof};
+use osm_prove::{Proved, prove, read_proof};
 use outside_proof::{AnswerAndProof, OutsideFault, answer_over, prove_over};
 use outside_shelf::{NodeSource, OutsideShelf, Refused};
 use ql_eval::{EvalFault, ManifestFault};
@@ -87,23 +87,45 @@ fn proves_as_a_mirror_does(
     edition: Edition,
     text: &str,
 ) -> Result<(), Fail> {
-    let alloc = rt.alloc();
-    let snapshot = snapshot(alloc, edition)?;
-    let root = snapshot.root();
-    let expected = prove(alloc, &snapshot, text.as_bytes())?;
+    let snapshot = snapshot(rt.alloc(), edition)?;
+    let expected = prove(rt.alloc(), &snapshot, text.as_bytes())?;
+    let pack = packed(rt.alloc(), &snapshot)?;
+    check_proved(rt, pack.as_slice(), text, &expected)?;
+    check_answered(rt, pack.as_slice(), text, &expected)
+}
+
+/// The pack of a snapshot.
+fn packed(alloc: Global, snapshot: &Snapshot) -> Result<Vec<u8>, Fail> {
     let mut pack = Vec::new(alloc);
-    write_pack(alloc, &mut snapshot.stock().shelf(alloc), root, &mut pack)?;
-    let source = PackSource::open(alloc, pack.as_slice())?;
-    let given = proved(alloc, source, root, text, NO_LIMITS)?;
-    assert_eq!(rt;
-        given.answer.as_slice(),
-        expected.answer.as_slice(),
-        "{text}"
-    );
-    assert_eq!(rt; given.proof.as_slice(), expected.proof.as_slice(), "{text}");
-    let source = PackSource::open(alloc, pack.as_slice())?;
-    let given = answered(alloc, source, root, text, NO_LIMITS)?;
-    assert_eq!(rt; given.as_slice(), expected.answer.as_slice(), "{text}");
+    let mut shelf = snapshot.stock().shelf(alloc);
+    write_pack(alloc, &mut shelf, snapshot.root(), &mut pack)?;
+    Ok(pack)
+}
+
+/// Whether these are the proof and the answer to a query over a pack.
+fn check_proved(
+    rt: &(impl Abort + AllocGlobal),
+    pack: &[u8],
+    text: &str,
+    expected: &Proved,
+) -> Result<(), Fail> {
+    let source = PackSource::open(rt.alloc(), pack)?;
+    let given = proved(rt.alloc(), source, &expected.root, text, NO_LIMITS)?;
+    assert!(rt; given.answer == expected.answer, "{text}");
+    assert!(rt; given.proof == expected.proof, "{text}");
+    Ok(())
+}
+
+/// Whether this is the answer to a query over a pack without its proof.
+fn check_answered(
+    rt: &(impl Abort + AllocGlobal),
+    pack: &[u8],
+    text: &str,
+    expected: &Proved,
+) -> Result<(), Fail> {
+    let source = PackSource::open(rt.alloc(), pack)?;
+    let given = answered(rt.alloc(), source, &expected.root, text, NO_LIMITS)?;
+    assert!(rt; given == expected.answer, "{text}");
     Ok(())
 }
 
@@ -167,15 +189,9 @@ fn tells_why_a_node_is_not_given(rt: HostRuntime) -> Result<(), Fail> {
 /// The bytes of the nodes that a query needs are enough, and one less aren't. The work of this query is 733, by hand.
 #[test]
 fn keeps_the_limits(rt: HostRuntime) -> Result<(), Fail> {
-    let alloc = rt.alloc();
-    let snapshot = snapshot(alloc, Edition::Two { sequence: 7 })?;
-    let root = snapshot.root();
+    let snapshot = snapshot(rt.alloc(), Edition::Two { sequence: 7 })?;
     let text = QUERIES[0];
-    let expected = prove(alloc, &snapshot, text.as_bytes())?;
-    let mut bytes = 0_u64;
-    for part in &read_proof(alloc, &expected.proof)? {
-        bytes = bytes.saturating_add(part.bytes().len() as u64);
-    }
+    let bytes = needed_bytes(rt.alloc(), &snapshot, text)?;
     let fewer = Some(bytes.saturating_sub(1));
     let too_many = Some(OutsideFault::Source(Refused::TooMany));
     for (bytes, work, fault) in [
@@ -183,19 +199,36 @@ fn keeps_the_limits(rt: HostRuntime) -> Result<(), Fail> {
         (fewer, None, too_many),
         (None, Some(732), Some(OutsideFault::Work)),
     ] {
-        let limits = Limits { bytes, work };
-        let source = Stored::new(alloc, &snapshot, None);
-        assert!(rt;
-            proved(alloc, source, root, text, limits).err() == fault,
-            "{limits:?}"
-        );
-        let source = Stored::new(alloc, &snapshot, None);
-        assert!(rt;
-            answered(alloc, source, root, text, limits).err() == fault,
-            "{limits:?}"
-        );
+        check_limits(&rt, &snapshot, text, Limits { bytes, work }, fault);
     }
     Ok(())
+}
+
+/// How many bytes the nodes have that a query needs.
+fn needed_bytes(alloc: Global, snapshot: &Snapshot, text: &str) -> Result<u64, Fail> {
+    let expected = prove(alloc, snapshot, text.as_bytes())?;
+    let mut bytes = 0_u64;
+    for part in &read_proof(alloc, &expected.proof)? {
+        bytes = bytes.saturating_add(part.bytes().len() as u64);
+    }
+    Ok(bytes)
+}
+
+/// Whether a query within these limits ends with this fault, with a proof and without.
+fn check_limits(
+    rt: &(impl Abort + AllocGlobal),
+    snapshot: &Snapshot,
+    text: &str,
+    limits: Limits,
+    fault: Option<OutsideFault>,
+) {
+    let root = snapshot.root();
+    let source = Stored::new(rt.alloc(), snapshot, None);
+    let told = proved(rt.alloc(), source, root, text, limits).err();
+    assert!(rt; told == fault, "{limits:?}");
+    let source = Stored::new(rt.alloc(), snapshot, None);
+    let told = answered(rt.alloc(), source, root, text, limits).err();
+    assert!(rt; told == fault, "{limits:?}");
 }
 
 /// Has the same bytes for whatever is asked.
