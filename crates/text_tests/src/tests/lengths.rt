@@ -39,10 +39,30 @@ const HEADS: [(&[u8], Option<u64>, bool, Option<&[u8]>); 8] = [
         false,
         None,
     ),
-    (b"HTTP/1.1 200 OK\r\nContent-Length: 2x\r\nContent-Range:\r\n\r\n", None, false, Some(b"")),
-    (b"HTTP/1.1 200 OK\r\nContent-Length-: 2\r\nX-Content-Range: a\r\n\r\n", None, false, None),
-    (b"HTTP/1.1 200 OK\r\nContent-Length: 2\r\nTransfer-Encoding: chunked\r\n\r\n", Some(2), true, None),
-    (b"HTTP/1.1 200 OK\r\nContent-Length: 2\r\ncontent-encoding: identity\r\n\r\n", Some(2), true, None),
+    (
+        b"HTTP/1.1 200 OK\r\nContent-Length: 2x\r\nContent-Range:\r\n\r\n",
+        None,
+        false,
+        Some(b""),
+    ),
+    (
+        b"HTTP/1.1 200 OK\r\nContent-Length-: 2\r\nX-Content-Range: a\r\n\r\n",
+        None,
+        false,
+        None,
+    ),
+    (
+        b"HTTP/1.1 200 OK\r\nContent-Length: 2\r\nTransfer-Encoding: chunked\r\n\r\n",
+        Some(2),
+        true,
+        None,
+    ),
+    (
+        b"HTTP/1.1 200 OK\r\nContent-Length: 2\r\ncontent-encoding: identity\r\n\r\n",
+        Some(2),
+        true,
+        None,
+    ),
 ];
 
 #[test]
