@@ -7,7 +7,7 @@ ghost use Rattle.command_line.specs.AskCommand.{ask_app, ask_name};
 ghost use Rattle.command_line.specs.FormOption.{IsBadForm};
 ghost use Rattle.command_line.specs.Jobs.{Gives};
 
-use crate::arguments::{QUERY, and_option, and_wanted, text_of};
+use crate::arguments::{QUERY, command_with, text_of};
 use crate::form_option::{form_of, form_option};
 use crate::job::Job;
 use crate::words_fault::WordsFault;
@@ -25,8 +25,7 @@ const ABOUT: &str =
 pub(crate) fn ask_command<'a>(alloc: Global) -> Result<Command<'a>, AllocError>
     ensures { IfOk result (IsCommand ask_app) }
 {
-    let command = and_wanted(alloc, Command::new(alloc, ASK).about(ABOUT), QUERY)?;
-    and_option(command, form_option(alloc))
+    command_with(alloc, ASK, ABOUT, &[QUERY, form_option()])
 }
 
 /// What the matches of this command ask for. `BadForm` where the word after `--form` is none of `opl`, `json` and `xml`.

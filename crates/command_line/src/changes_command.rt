@@ -1,15 +1,15 @@
 //! The command `changes FILE SEQUENCE CHANGEFILE`.
 
-ghost use Rattle.std.specs.Prelude.{◌≡◌, IfOk, codes, false};
-ghost use Rattle.clap.specs.Words.{found_of, one_of, rows_of, rule_of};
-ghost use Rattle.command_line.specs.internal.Commands.{IsCommand};
+ghost use Rattle.std.specs.Prelude.{◌≡◌, IfOk, codes};
+ghost use Rattle.clap.specs.Words.{found_of, one_of, rows_of};
+ghost use Rattle.command_line.specs.internal.Commands.{IsCommand, argument_rule};
 ghost use Rattle.command_line.specs.ChangesCommand.{changes_app, changes_name, set_sequence_rule};
 ghost use Rattle.command_line.specs.Jobs.{Gives};
 ghost use Rattle.command_line.specs.Numbers.{IsNumber};
 
-use crate::arguments::{Argument, FILE, and_option, and_wanted, text_of};
+use crate::arguments::{Argument, FILE, Place, Value, command_with, text_of};
 use crate::job::Job;
-use clap::{Arg, ArgMatches, Command, value_parser};
+use clap::{ArgMatches, Command};
 use std::alloc::{AllocError, Global};
 
 /// The name of the command.
@@ -26,25 +26,27 @@ const SEQUENCE_HELP: &str = "Sequence number of the set before the changes; its 
 const CHANGE_FILE: Argument = Argument {
     name: "CHANGEFILE",
     help: "OPL file with the changes, to which a line with the new root is added",
+    place: Place::Positional,
+    value: Value::AnyText,
 };
 
 /// The command, as `clap` is told of it.
 pub(crate) fn changes_command<'a>(alloc: Global) -> Result<Command<'a>, AllocError>
     ensures { IfOk result (IsCommand changes_app) }
 {
-    let command = and_wanted(alloc, Command::new(alloc, CHANGES).about(ABOUT), FILE)?;
-    let command = and_option(command, sequence_argument(alloc))?;
-    and_wanted(alloc, command, CHANGE_FILE)
+    let arguments = [FILE, sequence_argument(), CHANGE_FILE];
+    command_with(alloc, CHANGES, ABOUT, &arguments)
 }
 
-fn sequence_argument<'a>(alloc: Global) -> Arg<'a>
-    ensures rule { rule_of result ≡ set_sequence_rule }
-    ensures local { result.global ≡ false }
+fn sequence_argument() -> Argument
+    ensures { argument_rule result ≡ set_sequence_rule }
 {
-    Arg::new(alloc, SEQUENCE)
-        .required(true)
-        .value_parser(value_parser!(u64))
-        .help(SEQUENCE_HELP)
+    Argument {
+        name: SEQUENCE,
+        help: SEQUENCE_HELP,
+        place: Place::Positional,
+        value: Value::U64,
+    }
 }
 
 /// What the matches of this command ask for.

@@ -8,7 +8,7 @@ ghost use Rattle.command_line.specs.CheckCommand.{check_app, check_name};
 ghost use Rattle.command_line.specs.Jobs.{Gives};
 ghost use Rattle.command_line.specs.RootArgument.{IsRootText};
 
-use crate::arguments::{Argument, QUERY_FILE, and_all_wanted, and_option, text_of};
+use crate::arguments::{Argument, Place, QUERY_FILE, Value, command_with, text_of};
 use crate::job::Job;
 use crate::max_size_option::{max_size_of, max_size_option};
 use crate::max_work_option::{max_work_of, max_work_option};
@@ -26,22 +26,30 @@ const ABOUT: &str = "Checks an answer by its proof and a root: prints 'yes', or 
 const ANSWER_FILE: Argument = Argument {
     name: "ANSWERFILE",
     help: "File whose bytes are the answer",
+    place: Place::Positional,
+    value: Value::AnyText,
 };
 
 const PROOF_FILE: Argument = Argument {
     name: "PROOFFILE",
     help: "File whose bytes are the proof",
+    place: Place::Positional,
+    value: Value::AnyText,
 };
 
 /// The command, as `clap` is told of it.
 pub(crate) fn check_command<'a>(alloc: Global) -> Result<Command<'a>, AllocError>
     ensures { IfOk result (IsCommand check_app) }
 {
-    let arguments = [ROOT, QUERY_FILE, ANSWER_FILE, PROOF_FILE];
-    let command = Command::new(alloc, CHECK).about(ABOUT);
-    let command = and_all_wanted(alloc, command, &arguments)?;
-    let command = and_option(command, max_size_option(alloc))?;
-    and_option(command, max_work_option(alloc))
+    let arguments = [
+        ROOT,
+        QUERY_FILE,
+        ANSWER_FILE,
+        PROOF_FILE,
+        max_size_option(),
+        max_work_option(),
+    ];
+    command_with(alloc, CHECK, ABOUT, &arguments)
 }
 
 /// What the matches of this command ask for. `BadRoot` where ROOT isn't 64 hexadecimal digits.

@@ -1,16 +1,14 @@
 //! The options `--edition 1|2` and `--sequence N`, which tell the edition of a root.
 
-ghost use Rattle.std.specs.Prelude.{◌≡◌, IfErr, IfOk, codes, false};
-ghost use Rattle.clap.specs.Words.{app_of, first_of, found_of, one_of, rows_of, rule_of};
-ghost use Rattle.clap.specs.declared.builder.command.Command.TheViews.{out-Command as fields_of};
-ghost use Rattle.command_line.specs.EditionOptions.{AsksForEdition, IsBadEdition, IsSequence, edition_rule, sequence_rule, with_edition_options};
-ghost use Rattle.command_line.specs.internal.Commands.{IsCommand};
+ghost use Rattle.std.specs.Prelude.{◌≡◌, IfErr, IfOk, codes};
+ghost use Rattle.clap.specs.Words.{first_of, found_of, one_of, rows_of};
+ghost use Rattle.command_line.specs.EditionOptions.{AsksForEdition, IsBadEdition, IsSequence, edition_rule, sequence_rule};
+ghost use Rattle.command_line.specs.internal.Commands.{argument_rule};
 
-use crate::arguments::and_option;
+use crate::arguments::{Argument, Place, Value};
 use crate::words_fault::WordsFault;
-use clap::{Arg, ArgMatches, Command, value_parser};
+use clap::ArgMatches;
 use osm_keys::Edition;
-use std::alloc::{AllocError, Global};
 
 const EDITION: &str = "edition";
 
@@ -22,38 +20,31 @@ const SEQUENCE: &str = "sequence";
 const SEQUENCE_HELP: &str =
     "Sequence number of an edition 2 root, 0 if it isn't given; has no effect with '--edition 1'";
 
-/// The command with both options.
-pub(crate) fn and_edition_options<'a>(
-    alloc: Global,
-    command: Command<'a>,
-) -> Result<Command<'a>, AllocError>
-    requires { (fields_of command).has_globals ≡ false }
-    ensures { IfOk result (IsCommand (with_edition_options (app_of command.entry))) }
-{
-    let command = and_option(command, edition_option(alloc))?;
-    and_option(command, sequence_option(alloc))
-}
-
+/// The option `--edition`.
 // The word is read as text: no definition can name the place of the names that `ValueParser::Names` borrows.
-fn edition_option<'a>(alloc: Global) -> Arg<'a>
-    ensures rule { rule_of result ≡ edition_rule }
-    ensures local { result.global ≡ false }
+pub(crate) fn edition_option() -> Argument
+    ensures { argument_rule result ≡ edition_rule }
 {
-    Arg::new(alloc, EDITION)
-        .long(EDITION)
-        .value_name("EDITION")
-        .help(EDITION_HELP)
+    Argument {
+        name: EDITION,
+        help: EDITION_HELP,
+        place: Place::Option {
+            value_name: "EDITION",
+        },
+        value: Value::AnyText,
+    }
 }
 
-fn sequence_option<'a>(alloc: Global) -> Arg<'a>
-    ensures rule { rule_of result ≡ sequence_rule }
-    ensures local { result.global ≡ false }
+/// The option `--sequence`.
+pub(crate) fn sequence_option() -> Argument
+    ensures { argument_rule result ≡ sequence_rule }
 {
-    Arg::new(alloc, SEQUENCE)
-        .long(SEQUENCE)
-        .value_name("N")
-        .value_parser(value_parser!(u64))
-        .help(SEQUENCE_HELP)
+    Argument {
+        name: SEQUENCE,
+        help: SEQUENCE_HELP,
+        place: Place::Option { value_name: "N" },
+        value: Value::U64,
+    }
 }
 
 /// The edition that the matches ask for: the second, where they don't say. `BadEdition` where the word after

@@ -6,7 +6,7 @@ ghost use Rattle.command_line.specs.internal.Commands.{IsCommand};
 ghost use Rattle.command_line.specs.ExplainCommand.{explain_app, explain_name};
 ghost use Rattle.command_line.specs.Jobs.{Gives};
 
-use crate::arguments::{Argument, and_wanted, text_of};
+use crate::arguments::{Argument, Place, Value, command_with, text_of};
 use crate::job::Job;
 use clap::{ArgMatches, Command};
 use std::alloc::{AllocError, Global};
@@ -20,13 +20,15 @@ const ABOUT: &str = "Prints what a code means, where it is told and what to do a
 const CODE: Argument = Argument {
     name: "CODE",
     help: "The code, as 'O9', or another line that the program prints, as 'bad root'",
+    place: Place::Positional,
+    value: Value::AnyText,
 };
 
 /// The command, as `clap` is told of it.
 pub(crate) fn explain_command<'a>(alloc: Global) -> Result<Command<'a>, AllocError>
     ensures { IfOk result (IsCommand explain_app) }
 {
-    and_wanted(alloc, Command::new(alloc, EXPLAIN).about(ABOUT), CODE)
+    command_with(alloc, EXPLAIN, ABOUT, &[CODE])
 }
 
 /// What the matches of this command ask for.

@@ -9,7 +9,7 @@ ghost use Rattle.command_line.specs.FormOption.{IsBadForm};
 ghost use Rattle.command_line.specs.Jobs.{Gives};
 ghost use Rattle.command_line.specs.RootArgument.{IsRootText};
 
-use crate::arguments::{MIRROR, QUERY, and_all_wanted, and_option, text_of};
+use crate::arguments::{MIRROR, QUERY, command_with, text_of};
 use crate::form_option::{form_of, form_option};
 use crate::job::Job;
 use crate::max_size_option::{max_size_of, max_size_option};
@@ -29,11 +29,15 @@ const ABOUT: &str = "Asks a mirror, checks its proof on this machine and prints 
 pub(crate) fn fetch_command<'a>(alloc: Global) -> Result<Command<'a>, AllocError>
     ensures { IfOk result (IsCommand fetch_app) }
 {
-    let command = Command::new(alloc, FETCH).about(ABOUT);
-    let command = and_all_wanted(alloc, command, &[ROOT, MIRROR, QUERY])?;
-    let command = and_option(command, form_option(alloc))?;
-    let command = and_option(command, max_size_option(alloc))?;
-    and_option(command, max_work_option(alloc))
+    let arguments = [
+        ROOT,
+        MIRROR,
+        QUERY,
+        form_option(),
+        max_size_option(),
+        max_work_option(),
+    ];
+    command_with(alloc, FETCH, ABOUT, &arguments)
 }
 
 /// What the matches of this command ask for. `BadRoot` where ROOT isn't 64 hexadecimal digits; where it is, `BadForm`

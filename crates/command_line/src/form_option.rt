@@ -1,13 +1,14 @@
 //! The option `--form opl|json|xml`, which tells how objects are written.
 
-ghost use Rattle.std.specs.Prelude.{◌≡◌, IfErr, IfOk, codes, false};
-ghost use Rattle.clap.specs.Words.{first_of, found_of, rows_of, rule_of};
+ghost use Rattle.std.specs.Prelude.{◌≡◌, IfErr, IfOk, codes};
+ghost use Rattle.clap.specs.Words.{first_of, found_of, rows_of};
 ghost use Rattle.command_line.specs.FormOption.{AsksForForm, IsBadForm, form_rule};
+ghost use Rattle.command_line.specs.internal.Commands.{argument_rule};
 
+use crate::arguments::{Argument, Place, Value};
 use crate::words_fault::WordsFault;
-use clap::{Arg, ArgMatches};
+use clap::ArgMatches;
 use osm_forms::Form;
-use std::alloc::Global;
 
 const FORM: &str = "form";
 
@@ -15,14 +16,15 @@ const FORM_HELP: &str = "Form of the answer: opl, json or xml; opl if it isn't g
 
 /// The option, as `clap` is told of it.
 // The word is read as text, as that of `--edition` is.
-pub(crate) fn form_option<'a>(alloc: Global) -> Arg<'a>
-    ensures rule { rule_of result ≡ form_rule }
-    ensures local { result.global ≡ false }
+pub(crate) fn form_option() -> Argument
+    ensures { argument_rule result ≡ form_rule }
 {
-    Arg::new(alloc, FORM)
-        .long(FORM)
-        .value_name("FORM")
-        .help(FORM_HELP)
+    Argument {
+        name: FORM,
+        help: FORM_HELP,
+        place: Place::Option { value_name: "FORM" },
+        value: Value::AnyText,
+    }
 }
 
 /// The form that the matches ask for: OPL, where they don't say. `BadForm` where the word after `--form` is none of

@@ -1,12 +1,13 @@
 //! The option `--max-bytes BYTES`, a limit on what a query reads of a pack.
 
-ghost use Rattle.std.specs.Prelude.{◌≡◌, codes, false};
-ghost use Rattle.clap.specs.Words.{found_of, one_of, rows_of, rule_of};
+ghost use Rattle.std.specs.Prelude.{◌≡◌, codes};
+ghost use Rattle.clap.specs.Words.{found_of, one_of, rows_of};
 ghost use Rattle.command_line.specs.MaxBytesOption.{max_bytes_rule};
 ghost use Rattle.command_line.specs.Numbers.{IsNumberOrNone};
+ghost use Rattle.command_line.specs.internal.Commands.{argument_rule};
 
-use clap::{Arg, ArgMatches, value_parser};
-use std::alloc::Global;
+use crate::arguments::{Argument, Place, Value};
+use clap::ArgMatches;
 
 const MAX_BYTES: &str = "max-bytes";
 
@@ -14,15 +15,17 @@ const MAX_BYTES_HELP: &str =
     "Most bytes of nodes that the query may read; 1073741824 if it isn't given";
 
 /// The option, as `clap` is told of it.
-pub(crate) fn max_bytes_option<'a>(alloc: Global) -> Arg<'a>
-    ensures rule { rule_of result ≡ max_bytes_rule }
-    ensures local { result.global ≡ false }
+pub(crate) fn max_bytes_option() -> Argument
+    ensures { argument_rule result ≡ max_bytes_rule }
 {
-    Arg::new(alloc, MAX_BYTES)
-        .long(MAX_BYTES)
-        .value_name("BYTES")
-        .value_parser(value_parser!(u64))
-        .help(MAX_BYTES_HELP)
+    Argument {
+        name: MAX_BYTES,
+        help: MAX_BYTES_HELP,
+        place: Place::Option {
+            value_name: "BYTES",
+        },
+        value: Value::U64,
+    }
 }
 
 /// The most bytes, where the matches have a number for them.

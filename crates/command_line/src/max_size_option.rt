@@ -1,12 +1,13 @@
 //! The option `--max-size BYTES`, a limit on what is read.
 
-ghost use Rattle.std.specs.Prelude.{◌≡◌, codes, false};
-ghost use Rattle.clap.specs.Words.{found_of, one_of, rows_of, rule_of};
+ghost use Rattle.std.specs.Prelude.{◌≡◌, codes};
+ghost use Rattle.clap.specs.Words.{found_of, one_of, rows_of};
 ghost use Rattle.command_line.specs.MaxSizeOption.{max_size_rule};
 ghost use Rattle.command_line.specs.Numbers.{IsNumberOrNone};
+ghost use Rattle.command_line.specs.internal.Commands.{argument_rule};
 
-use clap::{Arg, ArgMatches, value_parser};
-use std::alloc::Global;
+use crate::arguments::{Argument, Place, Value};
+use clap::ArgMatches;
 
 const MAX_SIZE: &str = "max-size";
 
@@ -14,15 +15,17 @@ const MAX_SIZE_HELP: &str =
     "Most bytes of the answer, and of the proof; no limit if it isn't given";
 
 /// The option, as `clap` is told of it.
-pub(crate) fn max_size_option<'a>(alloc: Global) -> Arg<'a>
-    ensures rule { rule_of result ≡ max_size_rule }
-    ensures local { result.global ≡ false }
+pub(crate) fn max_size_option() -> Argument
+    ensures { argument_rule result ≡ max_size_rule }
 {
-    Arg::new(alloc, MAX_SIZE)
-        .long(MAX_SIZE)
-        .value_name("BYTES")
-        .value_parser(value_parser!(u64))
-        .help(MAX_SIZE_HELP)
+    Argument {
+        name: MAX_SIZE,
+        help: MAX_SIZE_HELP,
+        place: Place::Option {
+            value_name: "BYTES",
+        },
+        value: Value::U64,
+    }
 }
 
 /// The most bytes, where the matches have a number for them.

@@ -1,12 +1,13 @@
 //! The option `--max-work N`, a budget for the work of a query.
 
-ghost use Rattle.std.specs.Prelude.{◌≡◌, codes, false};
-ghost use Rattle.clap.specs.Words.{found_of, one_of, rows_of, rule_of};
+ghost use Rattle.std.specs.Prelude.{◌≡◌, codes};
+ghost use Rattle.clap.specs.Words.{found_of, one_of, rows_of};
 ghost use Rattle.command_line.specs.MaxWorkOption.{max_work_rule};
 ghost use Rattle.command_line.specs.Numbers.{IsNumberOrNone};
+ghost use Rattle.command_line.specs.internal.Commands.{argument_rule};
 
-use clap::{Arg, ArgMatches, value_parser};
-use std::alloc::Global;
+use crate::arguments::{Argument, Place, Value};
+use clap::ArgMatches;
 
 const MAX_WORK: &str = "max-work";
 
@@ -14,15 +15,15 @@ const MAX_WORK_HELP: &str =
     "Most work for a query: 1 for a byte of the answer, 100 for a step; no limit if it isn't given";
 
 /// The option, as `clap` is told of it.
-pub(crate) fn max_work_option<'a>(alloc: Global) -> Arg<'a>
-    ensures rule { rule_of result ≡ max_work_rule }
-    ensures local { result.global ≡ false }
+pub(crate) fn max_work_option() -> Argument
+    ensures { argument_rule result ≡ max_work_rule }
 {
-    Arg::new(alloc, MAX_WORK)
-        .long(MAX_WORK)
-        .value_name("N")
-        .value_parser(value_parser!(u64))
-        .help(MAX_WORK_HELP)
+    Argument {
+        name: MAX_WORK,
+        help: MAX_WORK_HELP,
+        place: Place::Option { value_name: "N" },
+        value: Value::U64,
+    }
 }
 
 /// The most work, where the matches have a number for it. With 0 each query is refused that isn't free: one that has a

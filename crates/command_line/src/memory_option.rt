@@ -1,12 +1,13 @@
 //! The option `--memory BYTES`, a limit on what is held of a set while it is packed.
 
-ghost use Rattle.std.specs.Prelude.{◌≡◌, codes, false};
-ghost use Rattle.clap.specs.Words.{found_of, one_of, rows_of, rule_of};
+ghost use Rattle.std.specs.Prelude.{◌≡◌, codes};
+ghost use Rattle.clap.specs.Words.{found_of, one_of, rows_of};
 ghost use Rattle.command_line.specs.MemoryOption.{memory_rule};
 ghost use Rattle.command_line.specs.Numbers.{IsNumber};
+ghost use Rattle.command_line.specs.internal.Commands.{argument_rule};
 
-use clap::{Arg, ArgMatches, value_parser};
-use std::alloc::Global;
+use crate::arguments::{Argument, Place, Value};
+use clap::ArgMatches;
 
 const MEMORY: &str = "memory";
 
@@ -17,15 +18,17 @@ const MEMORY_HELP: &str =
 const USUAL_MEMORY: u64 = 1_073_741_824;
 
 /// The option, as `clap` is told of it.
-pub(crate) fn memory_option<'a>(alloc: Global) -> Arg<'a>
-    ensures rule { rule_of result ≡ memory_rule }
-    ensures local { result.global ≡ false }
+pub(crate) fn memory_option() -> Argument
+    ensures { argument_rule result ≡ memory_rule }
 {
-    Arg::new(alloc, MEMORY)
-        .long(MEMORY)
-        .value_name("BYTES")
-        .value_parser(value_parser!(u64))
-        .help(MEMORY_HELP)
+    Argument {
+        name: MEMORY,
+        help: MEMORY_HELP,
+        place: Place::Option {
+            value_name: "BYTES",
+        },
+        value: Value::U64,
+    }
 }
 
 /// The bytes in the matches, 1 GiB where they have none.

@@ -1,18 +1,18 @@
 //! The command `pack FILE PACK [--memory BYTES] [--temp DIR] [--edition 1|2] [--sequence N]`.
 
-ghost use Rattle.std.specs.Prelude.{◌≡◌, ◌⊎◌, IfErr, IfOk, codes, false};
-ghost use Rattle.clap.specs.Words.{first_of, found_of, rows_of, rule_of};
+ghost use Rattle.std.specs.Prelude.{◌≡◌, ◌⊎◌, IfErr, IfOk, codes};
+ghost use Rattle.clap.specs.Words.{first_of, found_of, rows_of};
 ghost use Rattle.command_line.specs.EditionOptions.{IsBadEdition};
-ghost use Rattle.command_line.specs.internal.Commands.{IsCommand};
+ghost use Rattle.command_line.specs.internal.Commands.{IsCommand, argument_rule};
 ghost use Rattle.command_line.specs.Jobs.{Gives};
 ghost use Rattle.command_line.specs.PackCommand.{pack_app, pack_name, temp_rule};
 
-use crate::arguments::{Argument, FILE, and_all_wanted, and_option, optional_text_of, text_of};
-use crate::edition_options::{and_edition_options, edition_of};
+use crate::arguments::{Argument, FILE, Place, Value, command_with, optional_text_of, text_of};
+use crate::edition_options::{edition_of, edition_option, sequence_option};
 use crate::job::Job;
 use crate::memory_option::{memory_of, memory_option};
 use crate::words_fault::WordsFault;
-use clap::{Arg, ArgMatches, Command};
+use clap::{ArgMatches, Command};
 use std::alloc::{AllocError, Global};
 
 /// The name of the command.
@@ -25,6 +25,8 @@ const ABOUT: &str =
 const PACK_FILE: Argument = Argument {
     name: "PACK",
     help: "File that the pack is written to",
+    place: Place::Positional,
+    value: Value::AnyText,
 };
 
 const TEMP: &str = "temp";
@@ -36,21 +38,26 @@ const TEMP_HELP: &str =
 pub(crate) fn pack_command<'a>(alloc: Global) -> Result<Command<'a>, AllocError>
     ensures { IfOk result (IsCommand pack_app) }
 {
-    let command = Command::new(alloc, PACK).about(ABOUT);
-    let command = and_all_wanted(alloc, command, &[FILE, PACK_FILE])?;
-    let command = and_option(command, memory_option(alloc))?;
-    let command = and_option(command, temp_option(alloc))?;
-    and_edition_options(alloc, command)
+    let arguments = [
+        FILE,
+        PACK_FILE,
+        memory_option(),
+        temp_option(),
+        edition_option(),
+        sequence_option(),
+    ];
+    command_with(alloc, PACK, ABOUT, &arguments)
 }
 
-fn temp_option<'a>(alloc: Global) -> Arg<'a>
-    ensures rule { rule_of result ≡ temp_rule }
-    ensures local { result.global ≡ false }
+fn temp_option() -> Argument
+    ensures { argument_rule result ≡ temp_rule }
 {
-    Arg::new(alloc, TEMP)
-        .long(TEMP)
-        .value_name("DIR")
-        .help(TEMP_HELP)
+    Argument {
+        name: TEMP,
+        help: TEMP_HELP,
+        place: Place::Option { value_name: "DIR" },
+        value: Value::AnyText,
+    }
 }
 
 /// What the matches of this command ask for. `BadEdition` where the word after `--edition` is neither `1` nor `2`.

@@ -7,8 +7,8 @@ ghost use Rattle.command_line.specs.internal.Commands.{IsCommand};
 ghost use Rattle.command_line.specs.Jobs.{Gives};
 ghost use Rattle.command_line.specs.ProveCommand.{prove_app, prove_name};
 
-use crate::arguments::{Argument, FILE, QUERY_FILE, and_all_wanted, text_of};
-use crate::edition_options::{and_edition_options, edition_of};
+use crate::arguments::{Argument, FILE, Place, QUERY_FILE, Value, command_with, text_of};
+use crate::edition_options::{edition_of, edition_option, sequence_option};
 use crate::job::Job;
 use crate::words_fault::WordsFault;
 use clap::{ArgMatches, Command};
@@ -23,21 +23,30 @@ const ABOUT: &str = "Writes the answer to a query and its proof, and prints the 
 const ANSWER_FILE: Argument = Argument {
     name: "ANSWERFILE",
     help: "File that the answer is written to",
+    place: Place::Positional,
+    value: Value::AnyText,
 };
 
 const PROOF_FILE: Argument = Argument {
     name: "PROOFFILE",
     help: "File that the proof is written to",
+    place: Place::Positional,
+    value: Value::AnyText,
 };
 
 /// The command, as `clap` is told of it.
 pub(crate) fn prove_command<'a>(alloc: Global) -> Result<Command<'a>, AllocError>
     ensures { IfOk result (IsCommand prove_app) }
 {
-    let arguments = [FILE, QUERY_FILE, ANSWER_FILE, PROOF_FILE];
-    let command = Command::new(alloc, PROVE).about(ABOUT);
-    let command = and_all_wanted(alloc, command, &arguments)?;
-    and_edition_options(alloc, command)
+    let arguments = [
+        FILE,
+        QUERY_FILE,
+        ANSWER_FILE,
+        PROOF_FILE,
+        edition_option(),
+        sequence_option(),
+    ];
+    command_with(alloc, PROVE, ABOUT, &arguments)
 }
 
 /// What the matches of this command ask for. `BadEdition` where the word after `--edition` is neither `1` nor `2`.

@@ -7,8 +7,8 @@ ghost use Rattle.command_line.specs.internal.Commands.{IsCommand};
 ghost use Rattle.command_line.specs.Jobs.{Gives};
 ghost use Rattle.command_line.specs.PublishCommand.{publish_app, publish_name};
 
-use crate::arguments::{FILE, and_wanted, text_of};
-use crate::edition_options::{and_edition_options, edition_of};
+use crate::arguments::{FILE, command_with, text_of};
+use crate::edition_options::{edition_of, edition_option, sequence_option};
 use crate::job::Job;
 use crate::words_fault::WordsFault;
 use clap::{ArgMatches, Command};
@@ -24,8 +24,8 @@ const ABOUT: &str = "Prints the root of a set, by which clients check answers";
 pub(crate) fn publish_command<'a>(alloc: Global) -> Result<Command<'a>, AllocError>
     ensures { IfOk result (IsCommand publish_app) }
 {
-    let command = and_wanted(alloc, Command::new(alloc, PUBLISH).about(ABOUT), FILE)?;
-    and_edition_options(alloc, command)
+    let arguments = [FILE, edition_option(), sequence_option()];
+    command_with(alloc, PUBLISH, ABOUT, &arguments)
 }
 
 /// What the matches of this command ask for. `BadEdition` where the word after `--edition` is neither `1` nor `2`.

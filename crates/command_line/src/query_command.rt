@@ -9,7 +9,7 @@ ghost use Rattle.command_line.specs.FormOption.{IsBadForm};
 ghost use Rattle.command_line.specs.Jobs.{Gives};
 ghost use Rattle.command_line.specs.RootArgument.{IsRootText};
 
-use crate::arguments::{PLACE, QUERY, and_all_wanted, and_option, text_of};
+use crate::arguments::{PLACE, QUERY, command_with, text_of};
 use crate::form_option::{form_of, form_option};
 use crate::job::Job;
 use crate::max_bytes_option::{max_bytes_of, max_bytes_option};
@@ -29,11 +29,15 @@ const ABOUT: &str = "Finds the answer in a pack, trusting nothing in it, and pri
 pub(crate) fn query_command<'a>(alloc: Global) -> Result<Command<'a>, AllocError>
     ensures { IfOk result (IsCommand query_app) }
 {
-    let command = Command::new(alloc, QUERY_PACK).about(ABOUT);
-    let command = and_all_wanted(alloc, command, &[ROOT, PLACE, QUERY])?;
-    let command = and_option(command, form_option(alloc))?;
-    let command = and_option(command, max_bytes_option(alloc))?;
-    and_option(command, max_work_option(alloc))
+    let arguments = [
+        ROOT,
+        PLACE,
+        QUERY,
+        form_option(),
+        max_bytes_option(),
+        max_work_option(),
+    ];
+    command_with(alloc, QUERY_PACK, ABOUT, &arguments)
 }
 
 /// What the matches of this command ask for. `BadRoot` where ROOT isn't 64 hexadecimal digits; where it is, `BadForm`

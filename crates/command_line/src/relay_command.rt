@@ -1,25 +1,23 @@
 //! The command `relay ROOT HOST:PORT LISTENPORT [--fallback HOST:PORT].. [--root-file FILE] [--connections N]
 //! [--max-work N]`.
 
-ghost use Rattle.std.specs.Prelude.{◌≡◌, ◌⊎◌, IfErr, IfOk, codes, false};
-ghost use Rattle.clap.specs.Words.{found_of, rows_of, rule_of};
+ghost use Rattle.std.specs.Prelude.{◌≡◌, ◌⊎◌, IfErr, IfOk, codes};
+ghost use Rattle.clap.specs.Words.{found_of, rows_of};
 ghost use Rattle.command_line.specs.Arguments.{text_of};
-ghost use Rattle.command_line.specs.internal.Commands.{IsCommand};
+ghost use Rattle.command_line.specs.internal.Commands.{IsCommand, argument_rule};
 ghost use Rattle.command_line.specs.Jobs.{Gives};
 ghost use Rattle.command_line.specs.RelayCommand.{fallback_rule, relay_app, relay_name, root_file_rule};
 ghost use Rattle.command_line.specs.RootArgument.{IsRootText};
 
 use crate::arguments::{
-    Argument, MIRROR, all_texts_of, and_all_wanted, and_option, optional_text_of, text_of,
+    Argument, MIRROR, Place, Value, all_texts_of, command_with, optional_text_of, text_of,
 };
 use crate::job::Job;
-use crate::listen_options::{
-    PORT_HELP, connections_of, connections_option, port_argument, port_of,
-};
+use crate::listen_options::{connections_of, connections_option, port_argument, port_of};
 use crate::max_work_option::{max_work_of, max_work_option};
 use crate::root_argument::{ROOT, root_of};
 use crate::words_fault::WordsFault;
-use clap::{Arg, ArgAction, ArgMatches, Command};
+use clap::{ArgMatches, Command};
 use std::alloc::{AllocError, Global};
 
 /// The name of the command.
@@ -29,10 +27,7 @@ pub(crate) const RELAY: &str = "relay";
 const ABOUT: &str =
     "Answers programs on this machine as an Overpass server does, with what a mirror has proved";
 
-const LISTEN_PORT: Argument = Argument {
-    name: "LISTENPORT",
-    help: PORT_HELP,
-};
+const LISTEN_PORT: &str = "LISTENPORT";
 
 const FALLBACK: &str = "fallback";
 
@@ -47,34 +42,40 @@ const ROOT_FILE_HELP: &str = "File with the root that is in force; ROOT if it is
 pub(crate) fn relay_command<'a>(alloc: Global) -> Result<Command<'a>, AllocError>
     ensures { IfOk result (IsCommand relay_app) }
 {
-    let command = Command::new(alloc, RELAY).about(ABOUT);
-    let command = and_all_wanted(alloc, command, &[ROOT, MIRROR])?;
-    let command = and_option(command, port_argument(alloc, LISTEN_PORT))?;
-    let command = and_option(command, fallback_option(alloc))?;
-    let command = and_option(command, root_file_option(alloc))?;
-    let command = and_option(command, connections_option(alloc))?;
-    and_option(command, max_work_option(alloc))
+    let arguments = [
+        ROOT,
+        MIRROR,
+        port_argument(LISTEN_PORT),
+        fallback_option(),
+        root_file_option(),
+        connections_option(),
+        max_work_option(),
+    ];
+    command_with(alloc, RELAY, ABOUT, &arguments)
 }
 
-fn fallback_option<'a>(alloc: Global) -> Arg<'a>
-    ensures rule { rule_of result ≡ fallback_rule }
-    ensures local { result.global ≡ false }
+fn fallback_option() -> Argument
+    ensures { argument_rule result ≡ fallback_rule }
 {
-    Arg::new(alloc, FALLBACK)
-        .long(FALLBACK)
-        .value_name("HOST:PORT")
-        .action(ArgAction::Append)
-        .help(FALLBACK_HELP)
+    Argument {
+        name: FALLBACK,
+        help: FALLBACK_HELP,
+        place: Place::RepeatedOption {
+            value_name: "HOST:PORT",
+        },
+        value: Value::AnyText,
+    }
 }
 
-fn root_file_option<'a>(alloc: Global) -> Arg<'a>
-    ensures rule { rule_of result ≡ root_file_rule }
-    ensures local { result.global ≡ false }
+fn root_file_option() -> Argument
+    ensures { argument_rule result ≡ root_file_rule }
 {
-    Arg::new(alloc, ROOT_FILE)
-        .long(ROOT_FILE)
-        .value_name("FILE")
-        .help(ROOT_FILE_HELP)
+    Argument {
+        name: ROOT_FILE,
+        help: ROOT_FILE_HELP,
+        place: Place::Option { value_name: "FILE" },
+        value: Value::AnyText,
+    }
 }
 
 /// What the matches of this command ask for. `BadRoot` where ROOT isn't 64 hexadecimal digits.

@@ -6,7 +6,7 @@ ghost use Rattle.hex.specs.Hex.{decode_of};
 ghost use Rattle.command_line.specs.Arguments.{text_of};
 ghost use Rattle.command_line.specs.RootArgument.{IsRootText};
 
-use crate::arguments::{Argument, text_of};
+use crate::arguments::{Argument, Place, Value, text_of};
 use crate::words_fault::WordsFault;
 use clap::ArgMatches;
 use hex::FromHex;
@@ -17,6 +17,8 @@ use tree_node::Digest;
 pub(crate) const ROOT: Argument = Argument {
     name: "ROOT",
     help: "Root of the set: 64 hexadecimal digits, from the publisher",
+    place: Place::Positional,
+    value: Value::AnyText,
 };
 
 /// The root in the matches. `BadRoot` where ROOT isn't 64 hexadecimal digits.

@@ -1,23 +1,21 @@
 //! The command `serve FILE PORT [--connections N] [--max-work N] [--changes DIR] [--strict-changes] [--edition 1|2]
 //! [--sequence N]`.
 
-ghost use Rattle.std.specs.Prelude.{◌≡◌, ◌⊎◌, IfErr, IfOk, codes, false, is_some, option_map, true};
+ghost use Rattle.std.specs.Prelude.{◌≡◌, ◌⊎◌, IfErr, IfOk, codes, is_some, option_map, true};
 ghost use Rattle.std.specs.String.{string_bytes};
-ghost use Rattle.clap.specs.Words.{first_of, found_of, one_of, rows_of, rule_of};
-ghost use Rattle.command_line.specs.internal.Commands.{IsCommand};
+ghost use Rattle.clap.specs.Words.{first_of, found_of, one_of, rows_of};
+ghost use Rattle.command_line.specs.internal.Commands.{IsCommand, argument_rule};
 ghost use Rattle.command_line.specs.Flags.{IsFlag};
 ghost use Rattle.command_line.specs.Jobs.{Gives};
 ghost use Rattle.command_line.specs.ServeCommand.{CantServe, MayTake, changes_rule, serve_app, serve_name, strict_changes_rule};
 
-use crate::arguments::{Argument, FILE, and_option, and_wanted, text_of};
-use crate::edition_options::{and_edition_options, edition_of};
+use crate::arguments::{Argument, FILE, Place, Value, command_with, text_of};
+use crate::edition_options::{edition_of, edition_option, sequence_option};
 use crate::job::Job;
-use crate::listen_options::{
-    PORT_HELP, connections_of, connections_option, port_argument, port_of,
-};
+use crate::listen_options::{connections_of, connections_option, port_argument, port_of};
 use crate::max_work_option::{max_work_of, max_work_option};
 use crate::words_fault::WordsFault;
-use clap::{Arg, ArgAction, ArgMatches, Command};
+use clap::{ArgMatches, Command};
 use osm_keys::Edition;
 use std::alloc::{AllocError, Global};
 
@@ -27,10 +25,7 @@ pub(crate) const SERVE: &str = "serve";
 /// What the program's help says of the command.
 const ABOUT: &str = "Answers queries over HTTP, with proofs, on 127.0.0.1";
 
-const PORT: Argument = Argument {
-    name: "PORT",
-    help: PORT_HELP,
-};
+const PORT: &str = "PORT";
 
 const CHANGES: &str = "changes";
 
@@ -45,33 +40,39 @@ const STRICT_CHANGES_HELP: &str = "Refuse change files that don't tell which roo
 pub(crate) fn serve_command<'a>(alloc: Global) -> Result<Command<'a>, AllocError>
     ensures { IfOk result (IsCommand serve_app) }
 {
-    let command = and_wanted(alloc, Command::new(alloc, SERVE).about(ABOUT), FILE)?;
-    let command = and_option(command, port_argument(alloc, PORT))?;
-    let command = and_option(command, connections_option(alloc))?;
-    let command = and_option(command, max_work_option(alloc))?;
-    let command = and_option(command, changes_option(alloc))?;
-    let command = and_option(command, strict_changes_option(alloc))?;
-    and_edition_options(alloc, command)
+    let arguments = [
+        FILE,
+        port_argument(PORT),
+        connections_option(),
+        max_work_option(),
+        changes_option(),
+        strict_changes_option(),
+        edition_option(),
+        sequence_option(),
+    ];
+    command_with(alloc, SERVE, ABOUT, &arguments)
 }
 
-fn changes_option<'a>(alloc: Global) -> Arg<'a>
-    ensures rule { rule_of result ≡ changes_rule }
-    ensures local { result.global ≡ false }
+fn changes_option() -> Argument
+    ensures { argument_rule result ≡ changes_rule }
 {
-    Arg::new(alloc, CHANGES)
-        .long(CHANGES)
-        .value_name("DIR")
-        .help(CHANGES_HELP)
+    Argument {
+        name: CHANGES,
+        help: CHANGES_HELP,
+        place: Place::Option { value_name: "DIR" },
+        value: Value::AnyText,
+    }
 }
 
-fn strict_changes_option<'a>(alloc: Global) -> Arg<'a>
-    ensures rule { rule_of result ≡ strict_changes_rule }
-    ensures local { result.global ≡ false }
+fn strict_changes_option() -> Argument
+    ensures { argument_rule result ≡ strict_changes_rule }
 {
-    Arg::new(alloc, STRICT_CHANGES)
-        .long(STRICT_CHANGES)
-        .action(ArgAction::SetTrue)
-        .help(STRICT_CHANGES_HELP)
+    Argument {
+        name: STRICT_CHANGES,
+        help: STRICT_CHANGES_HELP,
+        place: Place::Flag,
+        value: Value::AnyText,
+    }
 }
 
 /// What the matches of this command ask for. `BadEdition` where the word after `--edition` is neither `1` nor `2`, and

@@ -1,18 +1,13 @@
-use Rattle.std.proofs.Common.{◌≡◌, ◌∙◌, ap, ap₂, rules}
-use Rattle.std.specs.Prelude.{codes}
+use Rattle.std.proofs.Common.{◌∙◌, ap, ap₂, codes}
 use Rattle.std.proofs.lemmas.Result.{IfOk-weaker}
-use Rattle.clap.specs.Words.{App, app_of, new_app, with_rule}
+use Rattle.clap.specs.Words.{App, new_app, with_rule}
 use Rattle.command_line.specs.Arguments.{wanted}
 use Rattle.command_line.specs.CheckCommand.{check_name}
 use Rattle.command_line.proofs.check_command.check_command.Goals as goal
 
--- a command with the arguments of this one
-abbrev with_arguments : App → App
-with_arguments app = with_rule (with_rule (with_rule (with_rule app (wanted (codes "ROOT"))) (wanted (codes "QUERYFILE"))) (wanted (codes "ANSWERFILE"))) (wanted (codes "PROOFFILE"))
-
 pub returns : goal.returns
 returns c =
-    let begun : app_of c.about-command.result ≡ new_app check_name = search rules in
-    let told = c.in_ok-command.ensures.0 ∙ ap with_arguments begun in
-    let sized = c.in_ok-command-2.ensures.0 ∙ ap₂ with_rule told c.max_size_option.ensures.rule in
-    IfOk-weaker c.and_option-2.result _ _ (λ r h. (h.0 ∙ ap₂ with_rule sized c.max_work_option.ensures.rule, h.1)) c.and_option-2.ensures
+    let begun : App = with_rule (with_rule (with_rule (with_rule (new_app check_name) (wanted (codes "ROOT"))) (wanted (codes "QUERYFILE"))) (wanted (codes "ANSWERFILE"))) (wanted (codes "PROOFFILE")) in
+    let with_max_size = ap (with_rule begun) c.max_size_option.ensures in
+    let told = ap₂ with_rule with_max_size c.max_work_option.ensures in
+    IfOk-weaker c.command_with.result _ _ (λ r h. (h.0 ∙ told, h.1)) c.command_with.ensures

@@ -1,18 +1,13 @@
-use Rattle.std.proofs.Common.{◌≡◌, ◌∙◌, ap, rules}
-use Rattle.std.specs.Prelude.{codes}
+use Rattle.std.proofs.Common.{◌∙◌, ap, ap₂, codes}
 use Rattle.std.proofs.lemmas.Result.{IfOk-weaker}
-use Rattle.clap.specs.Words.{App, app_of, new_app, with_rule}
+use Rattle.clap.specs.Words.{App, new_app, with_rule}
 use Rattle.command_line.specs.Arguments.{wanted}
-use Rattle.command_line.specs.EditionOptions.{with_edition_options}
 use Rattle.command_line.specs.ProveCommand.{prove_name}
 use Rattle.command_line.proofs.prove_command.prove_command.Goals as goal
 
--- a command with the arguments of this one
-abbrev with_arguments : App → App
-with_arguments app = with_rule (with_rule (with_rule (with_rule app (wanted (codes "FILE"))) (wanted (codes "QUERYFILE"))) (wanted (codes "ANSWERFILE"))) (wanted (codes "PROOFFILE"))
-
 pub returns : goal.returns
 returns c =
-    let begun : app_of c.about-command.result ≡ new_app prove_name = search rules in
-    let told = c.in_ok-command.ensures.0 ∙ ap with_arguments begun in
-    IfOk-weaker c.and_edition_options.result _ _ (λ r h. (h.0 ∙ ap with_edition_options told, h.1)) c.and_edition_options.ensures
+    let begun : App = with_rule (with_rule (with_rule (with_rule (new_app prove_name) (wanted (codes "FILE"))) (wanted (codes "QUERYFILE"))) (wanted (codes "ANSWERFILE"))) (wanted (codes "PROOFFILE")) in
+    let with_edition = ap (with_rule begun) c.edition_option.ensures in
+    let told = ap₂ with_rule with_edition c.sequence_option.ensures in
+    IfOk-weaker c.command_with.result _ _ (λ r h. (h.0 ∙ told, h.1)) c.command_with.ensures

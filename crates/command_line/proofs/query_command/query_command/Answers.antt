@@ -1,19 +1,14 @@
-use Rattle.std.proofs.Common.{◌≡◌, ◌∙◌, ap, ap₂, rules}
-use Rattle.std.specs.Prelude.{codes}
+use Rattle.std.proofs.Common.{◌∙◌, ap, ap₂, codes}
 use Rattle.std.proofs.lemmas.Result.{IfOk-weaker}
-use Rattle.clap.specs.Words.{App, app_of, new_app, with_rule}
+use Rattle.clap.specs.Words.{App, new_app, with_rule}
 use Rattle.command_line.specs.Arguments.{wanted}
 use Rattle.command_line.specs.QueryCommand.{query_name}
 use Rattle.command_line.proofs.query_command.query_command.Goals as goal
 
--- a command with the arguments of this one
-abbrev with_arguments : App → App
-with_arguments app = with_rule (with_rule (with_rule app (wanted (codes "ROOT"))) (wanted (codes "PLACE"))) (wanted (codes "QUERY"))
-
 pub returns : goal.returns
 returns c =
-    let begun : app_of c.about-command.result ≡ new_app query_name = search rules in
-    let told = c.in_ok-command.ensures.0 ∙ ap with_arguments begun in
-    let formed = c.in_ok-command-2.ensures.0 ∙ ap₂ with_rule told c.form_option.ensures.rule in
-    let sized = c.in_ok-command-3.ensures.0 ∙ ap₂ with_rule formed c.max_bytes_option.ensures.rule in
-    IfOk-weaker c.and_option-3.result _ _ (λ r h. (h.0 ∙ ap₂ with_rule sized c.max_work_option.ensures.rule, h.1)) c.and_option-3.ensures
+    let begun : App = with_rule (with_rule (with_rule (new_app query_name) (wanted (codes "ROOT"))) (wanted (codes "PLACE"))) (wanted (codes "QUERY")) in
+    let with_form = ap (with_rule begun) c.form_option.ensures in
+    let with_max_bytes = ap₂ with_rule with_form c.max_bytes_option.ensures in
+    let told = ap₂ with_rule with_max_bytes c.max_work_option.ensures in
+    IfOk-weaker c.command_with.result _ _ (λ r h. (h.0 ∙ told, h.1)) c.command_with.ensures
