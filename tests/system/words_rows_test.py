@@ -112,6 +112,39 @@ OF_CLAP = [
         "serve a 80 --strict-changes=yes",
         "error: unexpected value 'yes' for '--strict-changes' found; no more were expected\n",
     ),
+    (
+        "fetch a b c --max-size x",
+        "error: invalid value 'x' for '--max-size <BYTES>': invalid digit found in string\n",
+    ),
+    (
+        "fetch a b c --max-work 18446744073709551616",
+        "error: invalid value '18446744073709551616' for '--max-work <N>': number too large to fit in target type\n",
+    ),
+    (
+        "serve a 80 --max-work=1e9",
+        "error: invalid value '1e9' for '--max-work <N>': invalid digit found in string\n",
+    ),
+    ("ask a --form opl --form opl", "error: the argument '--form <FORM>' cannot be used multiple times\n"),
+    ("pack a", "error: the following required arguments were not provided:\n"),
+    ("pack a b c", "error: unexpected argument 'c' found\n"),
+    (
+        "pack a b --sequence x",
+        "error: invalid value 'x' for '--sequence <N>': invalid digit found in string\n",
+    ),
+    ("query a b", "error: the following required arguments were not provided:\n"),
+    ("query a b c --max-size 1", "error: unexpected argument '--max-size' found\n"),
+    (
+        "query a b c --max-bytes 18446744073709551616",
+        "error: invalid value '18446744073709551616' for '--max-bytes <BYTES>': number too large to fit in target type\n",
+    ),
+    (
+        "relay a b 80 --fallback",
+        "error: a value is required for '--fallback <HOST:PORT>' but none was supplied\n",
+    ),
+    (
+        "serve a 80 --strict-changes=true",
+        "error: unexpected value 'true' for '--strict-changes' found; no more were expected\n",
+    ),
     ("answer node(1);out;", "error: unrecognized subcommand 'answer'\n"),
     ("help", "error: unrecognized subcommand 'help'\n"),
     (
@@ -263,6 +296,21 @@ OF_CLAP = [
     ),
 ]
 
+# Lines that ask for nothing though clap takes them, and the only line that is told. Of two faults the one of ROOT is.
+REFUSED = [
+    ("ask q --form geojson", b"bad form\n"),
+    ("fetch 00 h:1 q --form json", b"bad root\n"),
+    ("fetch 00 h:1 q --form yaml", b"bad root\n"),
+    ("fetch --form= -- -x h:1 q", b"bad root\n"),
+    ("relay x h:1 80 --fallback b:1", b"bad root\n"),
+    ("query 00 p q", b"bad root\n"),
+    ("query 00 p q --form yaml", b"bad root\n"),
+    ("pack a b --edition 3", b"bad edition\n"),
+    ("pack a b --edition= --sequence 7", b"bad edition\n"),
+    ("serve a 80 --edition 1 --changes b --strict-changes", b"bad edition\n"),
+    ("serve a 80 --edition 3 --strict-changes", b"bad edition\n"),
+]
+
 # The digest of the empty message, in hexadecimal digits of both cases.
 ROOT = "e3b0c44298fc1c149afbf4c8996fb92427AE41E4649B934CA495991B7852B855"
 
@@ -298,6 +346,8 @@ def main():
     for word in ["", "OPL", "Json", "jsonx", "xm", "yaml", "1"]:
         check_told(tally, f"ask node(1);out; --form={word}", b"bad form\n")
         check_told(tally, f"fetch {ROOT} h:1 node(1);out; --form={word}", b"bad form\n")
+    for line, told in REFUSED:
+        check_told(tally, line, told)
     # ROOT is looked at before the form.
     check_told(tally, f"fetch {ROOT}0 h:1 node(1);out; --form yaml", b"bad root\n")
     for digits in [0, 1, 62, 63]:
