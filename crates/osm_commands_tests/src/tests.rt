@@ -6,7 +6,6 @@ mod changing;
 mod files;
 mod flushing_narrow_writer;
 mod lookouts;
-mod placing_writer;
 mod serving;
 
 use flushing_narrow_writer::FlushingNarrowWriter;

@@ -4,5 +4,4 @@ mod failing_pack;
 mod four_objects;
 mod packing;
 mod packing_within;
-mod placing_output;
 mod querying;

@@ -2,16 +2,16 @@
 
 use crate::packs::{ANSWERS, PACK, ROOT};
 use bumpalo::Bump;
-use node_pack::{PackSource, Place, ReadAt, ReadFault, write_pack};
+use node_pack::{PackSource, ReadAt};
 use opl_codec::read_set;
 use osm_forms::Form;
 use osm_index::{Edition, Snapshot};
 use outside_answer::{AnswerFault, Limits, answer_from};
 use outside_shelf::Refused;
+use pack_devices::{Remote, Seen, pack_of};
 use ql_eval::EvalFault;
 use ql_syntax::parse;
 use std::alloc::Global;
-use std::cell::Cell;
 use std::process::Abort;
 use std::test::Fail;
 use tree_node::{Digest, Shelf};
@@ -20,96 +20,6 @@ const NO_LIMITS: Limits = Limits {
     bytes: None,
     work: None,
 };
-
-/// What a device has seen.
-#[derive(Drop)]
-struct Seen {
-    /// How often it was told what to expect.
-    rounds: Cell<u32>,
-    /// How many places it was told a second time.
-    again: Cell<u32>,
-    /// How many reads it wasn't told of before.
-    sudden: Cell<u32>,
-}
-
-impl Seen {
-    fn new() -> Seen {
-        Seen {
-            rounds: Cell::new(0),
-            again: Cell::new(0),
-            sudden: Cell::new(0),
-        }
-    }
-}
-
-/// One more.
-fn count(cell: &Cell<u32>) {
-    cell.set(cell.get().saturating_add(1));
-}
-
-/// Bytes far away. One read after so many may fail.
-#[derive(Drop)]
-struct Remote<'a> {
-    bytes: &'a [u8],
-    expected: Vec<Place>,
-    seen: &'a Seen,
-    before: Option<u32>,
-}
-
-impl<'a> Remote<'a> {
-    fn new(alloc: Global, bytes: &'a [u8], seen: &'a Seen) -> Remote<'a> {
-        Remote {
-            bytes,
-            expected: Vec::new(alloc),
-            seen,
-            before: None,
-        }
-    }
-}
-
-impl<'a> ReadAt for Remote<'a> {
-    ghost reads = { λ device bytes. ⊥ };
-
-    fn size(&mut self) -> Result<u64, ReadFault> {
-        Ok(self.bytes.len() as u64)
-    }
-
-    fn read_at(&mut self, offset: u64, len: usize, into: &mut Vec<u8>) -> Result<(), ReadFault> {
-        match self.before {
-            Some(0) => {
-                self.before = None;
-                return Err(ReadFault::Device);
-            }
-            Some(more) => self.before = Some(more.saturating_sub(1)),
-            None => {}
-        }
-        let is_expected = self
-            .expected
-            .iter()
-            .any(|place| place.at == offset && len <= place.len as usize);
-        if !is_expected {
-            count(&self.seen.sudden);
-        }
-        let mut bytes = self.bytes;
-        bytes.read_at(offset, len, into)
-    }
-
-    fn is_remote(&self) -> bool {
-        true
-    }
-
-    fn expect(&mut self, places: &[Place]) {
-        count(&self.seen.rounds);
-        for place in places {
-            if self.expected.contains(place) {
-                count(&self.seen.again);
-            }
-            if self.expected.push(*place).is_err() {
-                return;
-            }
-        }
-    }
-}
 
 /// Writes the answer to a query over a pack.
 fn answer<F: ReadAt + Drop>(
@@ -189,14 +99,6 @@ fn many_objects(alloc: Global) -> Result<Snapshot, Fail> {
     Ok(Snapshot::build(alloc, set, Edition::Two { sequence: 7 })?)
 }
 
-/// The pack of a snapshot.
-fn packed(alloc: Global, snapshot: &Snapshot) -> Result<Vec<u8>, Fail> {
-    let mut pack = Vec::new(alloc);
-    let mut shelf = snapshot.stock().shelf(alloc);
-    write_pack(alloc, &mut shelf, snapshot.root(), &mut pack)?;
-    Ok(pack)
-}
-
 /// What a query means over a pack.
 fn answered<F: ReadAt + Drop>(
     rt: &(impl Abort + AllocGlobal),
@@ -238,7 +140,7 @@ fn takes_a_round_a_level(rt: HostRuntime) -> Result<(), Fail> {
     let tags = levels(rt.alloc(), &snapshot, &tags)?;
     let cells = levels(rt.alloc(), &snapshot, &cells)?;
     assert!(rt; objects > 2);
-    let pack = packed(rt.alloc(), &snapshot)?;
+    let pack = pack_of(rt.alloc(), snapshot.stock(), snapshot.root())?;
     for (text, rounds) in [
         ("node(1500);out;", objects),
         ("node(4000);out;", 1),

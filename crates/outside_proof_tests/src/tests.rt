@@ -2,12 +2,13 @@
 
 use crate::sources::{Spoiling, Stored};
 use bumpalo::Bump;
-use node_pack::{PackSource, write_pack};
+use node_pack::PackSource;
 use opl_codec::read_set;
 use osm_index::{Edition, Snapshot};
 use osm_prove::{Proved, prove, read_proof};
 use outside_proof::{AnswerAndProof, OutsideFault, answer_over, prove_over};
 use outside_shelf::{NodeSource, OutsideShelf, Refused};
+use pack_devices::pack_of;
 use ql_eval::{EvalFault, ManifestFault};
 use ql_syntax::parse;
 use std::alloc::Global;
@@ -89,17 +90,9 @@ fn proves_as_a_mirror_does(
 ) -> Result<(), Fail> {
     let snapshot = snapshot(rt.alloc(), edition)?;
     let expected = prove(rt.alloc(), &snapshot, text.as_bytes())?;
-    let pack = packed(rt.alloc(), &snapshot)?;
+    let pack = pack_of(rt.alloc(), snapshot.stock(), snapshot.root())?;
     check_proved(rt, pack.as_slice(), text, &expected)?;
     check_answered(rt, pack.as_slice(), text, &expected)
-}
-
-/// The pack of a snapshot.
-fn packed(alloc: Global, snapshot: &Snapshot) -> Result<Vec<u8>, Fail> {
-    let mut pack = Vec::new(alloc);
-    let mut shelf = snapshot.stock().shelf(alloc);
-    write_pack(alloc, &mut shelf, snapshot.root(), &mut pack)?;
-    Ok(pack)
 }
 
 /// Whether these are the proof and the answer to a query over a pack.

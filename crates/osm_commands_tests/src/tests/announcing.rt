@@ -3,7 +3,7 @@
 use super::ALL_KINDS;
 use super::changing::{DELETE_WAY, WITHOUT_WAY};
 use super::flushing_narrow_writer::FlushingNarrowWriter;
-use super::placing_writer::PlacingWriter;
+use command_devices::PlacingWriter;
 use osm_commands::{CommandFault, changes, read_snapshot};
 use osm_index::{Edition, Unwatched};
 use std::alloc::Global;
@@ -191,7 +191,7 @@ fn devices_that_fail_leave_the_file_in_its_place(rt: HostRuntime) {
         assert!(rt; fails_unplaced(alloc, 0, call, file));
     }
     // The text has 82 bytes.
-    for call in 1..7 {
+    for call in 1..10 {
         let file = PlacingWriter::new(alloc, call, Stop::Fails, false);
         assert!(rt; fails_unplaced(alloc, 0, 0, file));
         let file = PlacingWriter::new(alloc, call, Stop::TakesNothing, false);

@@ -9,6 +9,7 @@ use std::alloc::Global;
 use std::collections::BTreeMap;
 use std::process::Abort;
 use std::test::Fail;
+use test_devices::Numbers;
 
 /// What each connection sends, again and again.
 const TEXT: &[u8] = b"\
@@ -16,23 +17,6 @@ GET /api/root HTTP/1.1\r\n\r\n\
 GET /api/interpreter?data=node(-9,-9,9,9);out; HTTP/1.1\r\n\r\n\r\n\
 POST /api/checked HTTP/1.1\r\nContent-Length: 12\r\n\r\nnode(1);out;\
 GET /x HTTP/1.1\r\n\r\n";
-
-/// Numbers by a linear congruence (Knuth's MMIX).
-#[derive(Drop)]
-struct Numbers {
-    state: u64,
-}
-
-impl Numbers {
-    /// The next number below this one.
-    fn below(&mut self, limit: u32) -> u32 {
-        self.state = self
-            .state
-            .wrapping_mul(6364136223846793005)
-            .wrapping_add(1442695040888963407);
-        ((self.state >> 33) as u32).checked_rem(limit).unwrap_or(0)
-    }
-}
 
 /// The desk, and what stands beside it.
 #[derive(Drop)]
@@ -178,7 +162,7 @@ fn no_objects(alloc: Global) -> Result<Beside, Fail> {
 /// Takes 400 steps.
 fn steps(rt: &(impl Abort + AllocGlobal), beside: &mut Beside, seed: u64) -> Result<(), Fail> {
     let mut places = [0; 5];
-    let mut numbers = Numbers { state: seed };
+    let mut numbers = Numbers::new(seed);
     for _ in 0..400 {
         step(rt, beside, &mut places, &mut numbers)?;
     }

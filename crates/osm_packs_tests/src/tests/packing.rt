@@ -1,7 +1,7 @@
 //! The command `pack`.
 
 use super::four_objects::{OBJECTS, PACK, ROOT_LINE};
-use super::placing_output::PlacingOutput;
+use command_devices::PlacingWriter;
 use opl_codec::{LoadFault, OplCause, OplFault};
 use osm_commands::{CommandFault, Status};
 use osm_index::{Edition, Unwatched};
@@ -84,7 +84,7 @@ fn each_write_fails(rt: HostRuntime) -> Result<(), Fail> {
     let mut calls: usize = 0;
     for (stop, first, last) in [(Stop::Fails, 1, 200), (Stop::TakesNothing, 1, 200)] {
         for stops_at in first..last {
-            let mut file = PlacingOutput::new(alloc, stops_at, stop, false);
+            let mut file = PlacingWriter::new(alloc, stops_at, stop, false);
             let mut output = Vec::new(alloc);
             let told = pack(
                 alloc,
@@ -106,7 +106,7 @@ fn each_write_fails(rt: HostRuntime) -> Result<(), Fail> {
     // A call for each ten bytes at least.
     assert!(rt; calls > PACK.len() / 5);
     for (stop, fails) in [(Stop::HoldsBack, false), (Stop::Fails, true)] {
-        let mut file = PlacingOutput::new(alloc, 0, stop, fails);
+        let mut file = PlacingWriter::new(alloc, 0, stop, fails);
         let mut output = Vec::new(alloc);
         let told = pack(
             alloc,
@@ -128,8 +128,8 @@ fn each_write_fails(rt: HostRuntime) -> Result<(), Fail> {
 #[test]
 fn the_root_is_told_last(rt: HostRuntime) -> Result<(), Fail> {
     let alloc = rt.alloc();
-    let mut file = PlacingOutput::new(alloc, 0, Stop::Fails, false);
-    let mut output = PlacingOutput::new(alloc, 3, Stop::Fails, false);
+    let mut file = PlacingWriter::new(alloc, 0, Stop::Fails, false);
+    let mut output = PlacingWriter::new(alloc, 3, Stop::Fails, false);
     let told = pack(
         alloc,
         &mut Cursor::new(OBJECTS.as_bytes()),

@@ -1,7 +1,7 @@
 //! The command `pack` in bounded memory.
 
 use super::four_objects::{OBJECTS, PACK, ROOT_LINE};
-use super::placing_output::PlacingOutput;
+use command_devices::PlacingWriter;
 use opl_codec::{LoadFault, OplCause, OplFault};
 use osm_commands::CommandFault;
 use osm_index::{Edition, Unwatched};
@@ -18,8 +18,8 @@ fn packed<R: Read>(
     rt: &HostRuntime,
     reader: &mut R,
     memory: usize,
-    file: &mut PlacingOutput,
-    output: &mut PlacingOutput,
+    file: &mut PlacingWriter,
+    output: &mut PlacingWriter,
 ) -> Result<(), CommandFault> {
     let folder = ScratchFolder::new(rt, ".");
     pack_within(
@@ -40,8 +40,8 @@ fn packed<R: Read>(
 #[test]
 fn packs_the_same_within_any_memory(rt: HostRuntime) -> Result<(), Fail> {
     for memory in [0, 100, 1_000_000] {
-        let mut file = PlacingOutput::new(rt.alloc(), 0, Stop::Fails, false);
-        let mut output = PlacingOutput::new(rt.alloc(), 0, Stop::Fails, false);
+        let mut file = PlacingWriter::new(rt.alloc(), 0, Stop::Fails, false);
+        let mut output = PlacingWriter::new(rt.alloc(), 0, Stop::Fails, false);
         let mut reader = Cursor::new(OBJECTS.as_bytes());
         match packed(&rt, &mut reader, memory, &mut file, &mut output) {
             Ok(()) => {
@@ -64,8 +64,8 @@ fn packs_the_same_within_any_memory(rt: HostRuntime) -> Result<(), Fail> {
 /// What holds no set isn't packed, nor is anything where the scratch files have no folder.
 #[test]
 fn packs_nothing_where_it_is_refused(rt: HostRuntime) -> Result<(), Fail> {
-    let mut file = PlacingOutput::new(rt.alloc(), 0, Stop::Fails, false);
-    let mut output = PlacingOutput::new(rt.alloc(), 0, Stop::Fails, false);
+    let mut file = PlacingWriter::new(rt.alloc(), 0, Stop::Fails, false);
+    let mut output = PlacingWriter::new(rt.alloc(), 0, Stop::Fails, false);
     let told = packed(
         &rt,
         &mut Cursor::new(b"n1 x1 y1\nn2 x".as_slice()),
@@ -105,8 +105,8 @@ fn packs_nothing_where_it_is_refused(rt: HostRuntime) -> Result<(), Fail> {
 fn the_root_comes_after_the_pack(rt: HostRuntime) -> Result<(), Fail> {
     let mut calls: usize = 0;
     for stops_at in 1..2_000 {
-        let mut file = PlacingOutput::new(rt.alloc(), stops_at, Stop::Fails, false);
-        let mut output = PlacingOutput::new(rt.alloc(), 0, Stop::Fails, false);
+        let mut file = PlacingWriter::new(rt.alloc(), stops_at, Stop::Fails, false);
+        let mut output = PlacingWriter::new(rt.alloc(), 0, Stop::Fails, false);
         let mut reader = Cursor::new(OBJECTS.as_bytes());
         let told = packed(&rt, &mut reader, 1_000, &mut file, &mut output);
         if told.is_ok() {
@@ -119,16 +119,16 @@ fn the_root_comes_after_the_pack(rt: HostRuntime) -> Result<(), Fail> {
     }
     assert!(rt; calls > PACK.len() / 10);
     for (stop, fails) in [(Stop::HoldsBack, false), (Stop::Fails, true)] {
-        let mut file = PlacingOutput::new(rt.alloc(), 0, stop, fails);
-        let mut output = PlacingOutput::new(rt.alloc(), 0, Stop::Fails, false);
+        let mut file = PlacingWriter::new(rt.alloc(), 0, stop, fails);
+        let mut output = PlacingWriter::new(rt.alloc(), 0, Stop::Fails, false);
         let mut reader = Cursor::new(OBJECTS.as_bytes());
         let told = packed(&rt, &mut reader, 1_000, &mut file, &mut output);
         assert_eq!(rt; told, Err(CommandFault::Device));
         assert!(rt; file.writer.taken.as_slice() == PACK);
         assert!(rt; !file.is_placed && output.writer.taken.is_empty());
     }
-    let mut file = PlacingOutput::new(rt.alloc(), 0, Stop::Fails, false);
-    let mut output = PlacingOutput::new(rt.alloc(), 3, Stop::Fails, false);
+    let mut file = PlacingWriter::new(rt.alloc(), 0, Stop::Fails, false);
+    let mut output = PlacingWriter::new(rt.alloc(), 3, Stop::Fails, false);
     let mut reader = Cursor::new(OBJECTS.as_bytes());
     let told = packed(&rt, &mut reader, 1_000, &mut file, &mut output);
     assert_eq!(rt; told, Err(CommandFault::Device));

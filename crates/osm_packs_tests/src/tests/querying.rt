@@ -2,7 +2,7 @@
 
 use super::failing_pack::FailingPack;
 use super::four_objects::{PACK, ROOT};
-use super::placing_output::PlacingOutput;
+use command_devices::PlacingWriter;
 use node_pack::PackFault;
 use osm_commands::Status;
 use osm_forms::Form;
@@ -224,7 +224,7 @@ fn each_write_fails(rt: HostRuntime) -> Result<(), Fail> {
         (Stop::TakesNothing, 4, 30),
         (Stop::HoldsBack, 0, 33),
     ] {
-        let mut output = PlacingOutput::new(alloc, stops_at, stop, false);
+        let mut output = PlacingWriter::new(alloc, stops_at, stop, false);
         let text = QUERY.as_bytes();
         let told = query(alloc, Form::Opl, &ROOT, text, NO_LIMITS, PACK, &mut output);
         assert_eq!(rt; told, Err(NotAnswered::Device));

@@ -2,28 +2,7 @@
 
 use osm_traffic::{News, Reading, Room, Traffic, TrafficFault, Writing, give_piece};
 use std::alloc::Global;
-
-/// Numbers by a linear congruence (Knuth's MMIX).
-#[derive(Drop)]
-struct Numbers {
-    state: u64,
-}
-
-impl Numbers {
-    /// The next number below this one.
-    fn below(&mut self, limit: u32) -> u32 {
-        self.state = self
-            .state
-            .wrapping_mul(6364136223846793005)
-            .wrapping_add(1442695040888963407);
-        ((self.state >> 33) as u32).checked_rem(limit).unwrap_or(0)
-    }
-
-    /// Whether something happens that happens once in so many times.
-    fn happens(&mut self, times: u32) -> bool {
-        self.below(times) == 0
-    }
-}
+use test_devices::Numbers;
 
 /// A client.
 #[derive(Drop)]
@@ -92,7 +71,7 @@ impl Network {
             alloc,
             text,
             in_bursts: false,
-            numbers: Numbers { state: seed },
+            numbers: Numbers::new(seed),
             breaks,
             fails_at,
             calls: 0,

@@ -4,107 +4,13 @@ use super::super::small_pack::{LEN, NODES, PACK, ROOT};
 use super::changed;
 use super::writing::{put_manifest, small_stock};
 use bumpalo::Bump;
-use node_pack::{PackSource, Place, ReadAt, ReadFault, write_pack};
+use node_pack::{PackSource, ReadAt};
 use outside_shelf::{NodeSource, OutsideShelf, Refused, SourceFault};
+use pack_devices::{Remote, Seen, pack_of};
 use std::alloc::Global;
-use std::cell::Cell;
 use std::process::Abort;
 use std::test::Fail;
 use tree_node::{Digest, Shelf, Stock};
-
-/// What a device has seen.
-#[derive(Drop)]
-struct Seen {
-    /// How often it was told what to expect.
-    rounds: Cell<u32>,
-    /// How many places it was told.
-    places: Cell<u32>,
-    /// How many of them it had been told before.
-    again: Cell<u32>,
-    /// How many reads it wasn't told of before.
-    sudden: Cell<u32>,
-}
-
-impl Seen {
-    fn new() -> Seen {
-        Seen {
-            rounds: Cell::new(0),
-            places: Cell::new(0),
-            again: Cell::new(0),
-            sudden: Cell::new(0),
-        }
-    }
-}
-
-/// One more.
-fn count(cell: &Cell<u32>) {
-    cell.set(cell.get().saturating_add(1));
-}
-
-/// Bytes far away. A read may fail, once after so many.
-#[derive(Drop)]
-struct Remote<'a> {
-    bytes: &'a [u8],
-    expected: Vec<Place>,
-    seen: &'a Seen,
-    before: Option<u32>,
-}
-
-impl<'a> Remote<'a> {
-    fn new(alloc: Global, bytes: &'a [u8], seen: &'a Seen) -> Remote<'a> {
-        Remote {
-            bytes,
-            expected: Vec::new(alloc),
-            seen,
-            before: None,
-        }
-    }
-}
-
-impl<'a> ReadAt for Remote<'a> {
-    ghost reads = { λ device bytes. ⊥ };
-
-    fn size(&mut self) -> Result<u64, ReadFault> {
-        Ok(self.bytes.len() as u64)
-    }
-
-    fn read_at(&mut self, offset: u64, len: usize, into: &mut Vec<u8>) -> Result<(), ReadFault> {
-        match self.before {
-            Some(0) => {
-                self.before = None;
-                return Err(ReadFault::Device);
-            }
-            Some(more) => self.before = Some(more.saturating_sub(1)),
-            None => {}
-        }
-        let is_expected = self
-            .expected
-            .iter()
-            .any(|place| place.at == offset && len <= place.len as usize);
-        if !is_expected {
-            count(&self.seen.sudden);
-        }
-        let mut bytes = self.bytes;
-        bytes.read_at(offset, len, into)
-    }
-
-    fn is_remote(&self) -> bool {
-        true
-    }
-
-    fn expect(&mut self, places: &[Place]) {
-        count(&self.seen.rounds);
-        for place in places {
-            count(&self.seen.places);
-            if self.expected.contains(place) {
-                count(&self.seen.again);
-            }
-            if self.expected.push(*place).is_err() {
-                return;
-            }
-        }
-    }
-}
 
 /// Of the small pack each hint brings the top, and then the leaves that it leads to. The keys are `a` and `b`.
 #[test]
@@ -207,9 +113,7 @@ fn deep_pack(alloc: Global) -> Result<Deep, Fail> {
     let top = put_above(alloc, &mut stock, 3, second.as_slice())?;
     let tops = [NODES[2].0, top, NODES[5].0, NODES[6].0];
     let root = put_manifest(alloc, &mut stock, tops)?;
-    let mut pack = Vec::new(alloc);
-    let mut shelf = stock.shelf(alloc);
-    write_pack(alloc, &mut shelf, &root, &mut pack)?;
+    let pack = pack_of(alloc, &stock, &root)?;
     Ok(Deep {
         pack,
         root,

@@ -5,6 +5,7 @@ use bumpalo::Bump;
 use node_pack::{PackSource, WriteFault, write_pack};
 use osm_keys::{Edition, Manifest, write_manifest};
 use outside_shelf::OutsideShelf;
+use pack_devices::pack_of;
 use std::alloc::Global;
 use std::io;
 use std::io::Write;
@@ -212,7 +213,7 @@ fn writes_shared_nodes_once(rt: HostRuntime) -> Result<(), Fail> {
     let [_, tags, objects, leaf, other, cells, backs] = &NODES;
     let mut stock = small_stock(rt.alloc()).ok_or("no memory")?;
     let [root, top, upper, same, lower] = put_shared(rt.alloc(), &mut stock)?;
-    let pack = packed(rt.alloc(), &stock, &root)?;
+    let pack = pack_of(rt.alloc(), &stock, &root)?;
     // The header, the records of the manifest, the six nodes with two children each, and five leaves.
     assert_eq!(rt; pack.len(), 60 + 185 + 5 * 118 + 3 * 8 + 2 * 15);
     let records = [
@@ -243,14 +244,6 @@ fn put_shared(alloc: Global, stock: &mut Stock) -> Result<[Digest; 5], Fail> {
     let top = put_inner(alloc, stock, 3, [upper, same])?;
     let root = put_manifest(alloc, stock, [objects.0, top, cells.0, backs.0])?;
     Ok([root, top, upper, same, lower])
-}
-
-/// The pack of the nodes under a root.
-fn packed(alloc: Global, stock: &Stock, root: &Digest) -> Result<Vec<u8>, WriteFault> {
-    let mut pack = Vec::new(alloc);
-    let mut shelf = stock.shelf(alloc);
-    write_pack(alloc, &mut shelf, root, &mut pack)?;
-    Ok(pack)
 }
 
 /// Whether a pack has the records of these nodes after its header, each with room for so many children, and nothing else.

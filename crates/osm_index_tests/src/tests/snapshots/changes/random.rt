@@ -3,23 +3,7 @@
 use super::changes_as_built;
 use std::alloc::Global;
 use std::test::Fail;
-
-/// Numbers by a linear congruence (Knuth's MMIX).
-#[derive(Drop)]
-struct Numbers {
-    state: u64,
-}
-
-impl Numbers {
-    /// The next number below this one.
-    fn below(&mut self, limit: u64) -> u64 {
-        self.state = self
-            .state
-            .wrapping_mul(6364136223846793005)
-            .wrapping_add(1442695040888963407);
-        (self.state >> 33).checked_rem(limit).unwrap_or(0)
-    }
-}
+use test_devices::Numbers;
 
 /// Appends the line of an object of this index: its kind and its id by the index, all else by the form.
 fn append_line(alloc: Global, index: u64, form: u64, text: &mut String) -> Result<(), Fail> {
@@ -52,7 +36,7 @@ fn forms(alloc: Global, numbers: &mut Numbers) -> Result<Vec<Option<u64>>, Fail>
     let share = numbers.below(10);
     let mut forms = Vec::new(alloc);
     for _ in 0..150 {
-        let form = numbers.below(60);
+        let form = u64::from(numbers.below(60));
         forms.push(if numbers.below(10) < share {
             Some(form)
         } else {
@@ -85,7 +69,7 @@ fn change(alloc: Global, forms: &mut [Option<u64>], numbers: &mut Numbers) -> Re
             forms[index] = None;
             append_delete(alloc, index as u64, &mut text)?;
         } else {
-            let form = numbers.below(60);
+            let form = u64::from(numbers.below(60));
             forms[index] = Some(form);
             append_line(alloc, index as u64, form, &mut text)?;
         }
@@ -97,7 +81,7 @@ fn change(alloc: Global, forms: &mut [Option<u64>], numbers: &mut Numbers) -> Re
 fn seeded_changes_make_what_is_built(rt: HostRuntime) -> Result<(), Fail> {
     let alloc = rt.alloc();
     for seed in 0..100 {
-        let mut numbers = Numbers { state: seed };
+        let mut numbers = Numbers::new(seed);
         let mut forms = forms(alloc, &mut numbers)?;
         let set = set_text(alloc, &forms)?;
         let changes = change(alloc, &mut forms, &mut numbers)?;

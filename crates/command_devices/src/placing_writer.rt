@@ -1,4 +1,4 @@
-//! An output that takes few bytes a call, may stop, and is put in its place.
+//! A writer whose text is put in its place.
 
 ghost use Rattle.std.specs.Prelude.{true};
 
@@ -10,18 +10,20 @@ use test_devices::{NarrowWriter, Stop};
 
 /// A [`NarrowWriter`] with a flush, whose text is put in its place, or can't be.
 #[derive(Drop)]
-pub(super) struct PlacingOutput {
-    pub(super) writer: NarrowWriter,
+pub struct PlacingWriter {
+    /// What takes the text.
+    pub writer: NarrowWriter,
     /// Putting it in its place fails.
-    pub(super) fails: bool,
+    pub fails: bool,
     /// It is in its place.
-    pub(super) is_placed: bool,
+    pub is_placed: bool,
 }
 
-impl PlacingOutput {
-    /// Nothing was written yet. It stops so at this call; at none where it is 0.
-    pub(super) fn new(alloc: Global, stops_at: usize, stop: Stop, fails: bool) -> PlacingOutput {
-        PlacingOutput {
+impl PlacingWriter {
+    /// Nothing was written yet. It takes ten bytes a call, and stops so at this call; at none where it is 0. Putting its text in
+    /// its place fails, or doesn't.
+    pub fn new(alloc: Global, stops_at: usize, stop: Stop, fails: bool) -> PlacingWriter {
+        PlacingWriter {
             writer: NarrowWriter {
                 taken: Vec::new(alloc),
                 at_once: 10,
@@ -35,7 +37,7 @@ impl PlacingOutput {
     }
 }
 
-impl Write for PlacingOutput {
+impl Write for PlacingWriter {
     fn write(&mut self, buf: &[u8]) -> io::Result<usize> {
         self.writer.write(buf)
     }
@@ -45,7 +47,7 @@ impl Write for PlacingOutput {
     }
 }
 
-impl FlushingWriter for PlacingOutput {
+impl FlushingWriter for PlacingWriter {
     ghost is_flushed = { λ _. true };
 
     fn flush_all(&mut self) -> Result<(), CommandFault> {
@@ -53,7 +55,7 @@ impl FlushingWriter for PlacingOutput {
     }
 }
 
-impl ReplacingWriter for PlacingOutput {
+impl ReplacingWriter for PlacingWriter {
     ghost is_in_place = { λ writer. writer.is_placed };
 
     fn put_in_place(&mut self) -> Result<(), CommandFault> {
