@@ -43,6 +43,7 @@ use Rattle.ql_plan.specs.Plans.{Planned, rest_of}
 use Rattle.ql_syntax.specs.declared.pick.Pick.{Pick}
 use Rattle.ref_sets.specs.Adding.{From}
 use Rattle.ref_sets.specs.NamedSets.{Env}
+use Rattle.ref_sets.specs.Sets.{IsSetOf}
 use Rattle.ql_meaning.specs.Values.{IsRefOf}
 use Rattle.ql_eval.specs.Questions.{Answers, Ask, Counted, IsCountOf, Listed, NeededBy, NeedsAsk, OfKind, WithKey, WithTag}
 use Rattle.ql_eval.specs.Work.{Both, HasNoClash, IsInCellsOf, IsNodeOf, OfSet, Steps, WorkByPlan, step_cost}
@@ -191,6 +192,14 @@ apart_both (x ∷ xs) ys first second never = (
   apart_both xs ys first.1 second (λ y one other. never y (in_rest x xs y one) other),
 )
 
+-- one more item that isn't among them
+pub apart_more : {X : Type 0} (xs : List X) (x : X) → AreApart xs → (Contains xs x → ⊥) → AreApart (xs ++ x ∷ [])
+apart_more xs x apart never =
+    apart_both xs (x ∷ []) apart ((λ has. none x has), tt) (λ y has only. elim (first_or_in_rest x [] y only) [
+      | inl same ↦ never (subst (λ (z : _). Contains xs z) (sym same) has)
+      | inr later ↦ none y later
+    ])
+
 apart_front : {X : Type 0} (xs ys : List X) → AreApart (xs ++ ys) → AreApart xs
 apart_front [] ys apart = tt
 apart_front (x ∷ xs) ys apart = ((λ has. apart.0 (Contains-append_left xs ys x has)), apart_front xs ys apart.1)
@@ -239,6 +248,18 @@ module _ {X Y : Type 0} (R : X → Y → Type 0) where
           | inr later ↦ Contains-append_right before after w later
         ]
       ]
+
+-- a set has no fewer members than a list of some of them
+pub apart_within : {P : Ref → Type 0} (found set : List Ref) → AreApart found → ((r : Ref) → Contains found r → P r) → IsSetOf set P → length found ≤ length set
+apart_within found set apart are is =
+    no_more (λ r s. r ≡ s) found set apart (λ r has. (r, (is.members r).1 (are r has), refl)) (λ r s t in_found in_too same same_too. same ∙ sym same_too)
+
+-- so many of its members were counted
+pub found_bounded : (P : Ref → Type 0) (found : List Ref) (old new : ℕ) → AreApart found → ((r : Ref) → Contains found r → P r) → IsCounted old new (step_cost * length found)
+    → IsBounded (OfSet P (λ set. Steps (length set))) old new
+found_bounded P found old new apart are counted n work =
+    let few = apart_within found work.set apart are work.is_set in
+    omega (arith, few, counted.not_more, work.work.is)
 
 -- ---- counts
 

@@ -15,11 +15,13 @@ use Rattle.ql_meaning.specs.Values.{IsChain, IsParent, IsReached, IsRefOf, Link,
 use Rattle.ql_eval.specs.Asks.{AskedByRecursion}
 use Rattle.ql_eval.specs.Faults.{cause_of_evaluation}
 use Rattle.ql_eval.specs.Questions.{Ask, NeededBy, object_ask}
+use Rattle.ql_eval.specs.Work.{OfSet}
 use Rattle.ql_eval.specs.declared.chains.Direction.{Direction}
 use Rattle.ql_eval.specs.declared.chains.Direction.TheVariants.{Down, Up}
 use Rattle.ql_eval.specs.declared.fault.EvalFault.{EvalFault}
 use Rattle.ql_eval.specs.internal.Chains.{IsEnd, IsEndAsk, IsWay, Leads, More, One}
 use Rattle.ql_eval.specs.internal.Links.{AreThere, IsListedOf}
+use Rattle.ql_eval.specs.internal.Metering.{IsBounded}
 use Rattle.ql_eval.proofs.EachLemmas.{needed_as}
 use Rattle.ql_eval.proofs.EntryLemmas.{set_as}
 
@@ -105,6 +107,22 @@ module _ (p : Publication) (is_set : IsObjectSet p.objects) (set : List Ref) (th
 
   pub up_all_set : (refs : List Ref) → IsSetOf refs (IsEnd Up p.objects set) → IsSetOf refs (IsRefOf p.objects (IsReached p.objects recursions.UpAll set))
   up_all_set refs is = set_as refs (IsEnd Up p.objects set) (IsRefOf p.objects (IsReached p.objects recursions.UpAll set)) up_reached is
+
+  -- what is bounded by the references that were reached, whichever way they are said
+  module _ (Work : List Ref → ℕ → Type 0) (old new : ℕ) where
+    pub down_all_bounded : IsBounded (OfSet (IsEnd Down p.objects set) Work) old new → IsBounded (OfSet (IsRefOf p.objects (IsReached p.objects recursions.DownAll set)) Work) old new
+    down_all_bounded bounded n work = bounded n (record {
+      set = work.set;
+      is_set = set_as work.set (IsRefOf p.objects (IsReached p.objects recursions.DownAll set)) (IsEnd Down p.objects set) (λ r. ((down_reached r).1, (down_reached r).0)) work.is_set;
+      work = work.work;
+    })
+
+    pub up_all_bounded : IsBounded (OfSet (IsEnd Up p.objects set) Work) old new → IsBounded (OfSet (IsRefOf p.objects (IsReached p.objects recursions.UpAll set)) Work) old new
+    up_all_bounded bounded n work = bounded n (record {
+      set = work.set;
+      is_set = set_as work.set (IsRefOf p.objects (IsReached p.objects recursions.UpAll set)) (IsEnd Up p.objects set) (λ r. ((up_reached r).1, (up_reached r).0)) work.is_set;
+      work = work.work;
+    })
 
   -- ---- what is asked
 

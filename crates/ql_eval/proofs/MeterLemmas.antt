@@ -1,6 +1,7 @@
 -- What a meter counts, one work after the other.
-use Rattle.std.proofs.Common.{◌≡◌, ◌⊎◌, inl, inr, ℕ, zero, suc, ◌+◌, ◌*◌, ◌-◌, ◌^◌, ◌<◌, ◌≤◌, ◌≢◌, List, [], ◌∷◌, ◌++◌, length, length-append, min, get_or, drop, take, Option, Some, None, Result, Ok, Err, refl, sym, ap, subst, ◌∙◌, arith}
+use Rattle.std.proofs.Common.{◌≡◌, ◌⊎◌, inl, inr, Bool, if◌then◌else◌, ℕ, zero, suc, ◌+◌, ◌*◌, ◌-◌, ◌^◌, ◌<◌, ◌≤◌, ◌≢◌, List, [], ◌∷◌, ◌++◌, length, length-append, min, get_or, drop, take, Option, Some, None, Result, Ok, Err, refl, sym, ap, subst, ◌∙◌, arith}
 use Rattle.std.specs.Prelude.{IfSome}
+use Rattle.std.proofs.lemmas.Slice.Eq.{bytes_eq-Decides}
 use Rattle.std.proofs.lemmas.Grind.{flat_map-append}
 use Rattle.std.proofs.lemmas.List.{append-nil, at_drop_all, at_drop_more, take-append-drop, take_more}
 use Rattle.std.specs.List.{flat_map}
@@ -14,11 +15,14 @@ use Rattle.tree_node.proofs.shared.OutcomeLaws.{Nodes, clash_more, uses}
 use Rattle.osm_keys.specs.Publications.{Publication}
 use Rattle.ql_syntax.specs.Filters.{Filter}
 use Rattle.ql_syntax.specs.StatementViews.{filter_of, filters_of, statement_of, statements_of}
-use Rattle.ql_syntax.specs.Statements.{Statement, Statements, End, Then}
+use Rattle.ql_syntax.specs.Statements.{Statement, Statements, End, Recurse, Then}
+use Rattle.ql_syntax.specs.declared.recursion.Recursion.{Recursion}
 use Rattle.ql_syntax.specs.declared.filter.Filter as code
 use Rattle.ql_syntax.specs.declared.statement.Stmt.{Stmt}
 use Rattle.ql_meaning.proofs.shared.MeaningLaws.{after_once, one_set}
 use Rattle.ql_meaning.specs.Meanings.{After, Telling, given_by}
+use Rattle.ql_meaning.specs.Values.{IsRefOf}
+use Rattle.ql_meaning.specs.Values as values
 use Rattle.ql_plan.specs.Plans.{Planned}
 use Rattle.ref_sets.specs.NamedSets.{Env}
 use Rattle.ref_sets.specs.Sets.{IsSetOf}
@@ -33,7 +37,7 @@ use Rattle.ql_eval.specs.declared.opening.ManifestFault.{ManifestFault}
 use Rattle.ql_eval.specs.declared.opening.ManifestFault.TheVariants as openings
 use Rattle.ql_eval.specs.internal.TrueFaults.{IsTrueUnder}
 use Rattle.ql_eval.specs.Work.{Both, Bytes, HasNoClash, InRow, IsNodeOf, KeepsBudget, Passes, OfPlan, OfSet, Steps, WorkOf, WorkOfAll, read_by, read_by_all, step_cost}
-use Rattle.ql_eval.specs.internal.Metering.{IsBounded, IsCounted, IsGoing, IsLeft, IsReached, IsSpent, greatest}
+use Rattle.ql_eval.specs.internal.Metering.{IsBounded, IsCounted, IsGoing, IsLeft, IsReached, IsSpent, WorkOfLast, greatest}
 use Rattle.ql_eval.proofs.EachLemmas.{needed_as}
 use Rattle.ql_eval.proofs.PlanLemmas.{one_planned}
 
@@ -235,6 +239,20 @@ module _ (objects : List Element) (statement : Statement) (env later : Env) (giv
 pub row_stops : (objects : List Element) (statement : Statement) (env : Env) {First : ℕ → Type 0} {Rest : Env → ℕ → Type 0} (old ran : ℕ) → IsBounded First old ran → IsBounded (InRow objects statement env First Rest) old ran
 row_stops objects statement env old ran first n work = omega (arith, work.is, first work.first work.is_first)
 
+-- what is no more than the work of the last statement of a row is no more than that of one that others come after
+pub last_stops : (tell : Telling) (p : Publication) (statement : Statement) (env : Env) {Rest : Env → ℕ → Type 0} (old ran : ℕ) → IsBounded (WorkOfLast tell p statement env) old ran → IsBounded (InRow p.objects statement env (WorkOf tell p statement env) Rest) old ran
+last_stops tell p statement env old ran last n work =
+    let so = work.is_second in
+    let step = so.work.first in
+    let alone : WorkOfLast tell p statement env (work.first + (step + 0)) = record {
+      first = work.first;
+      second = step + 0;
+      is_first = work.is_first;
+      is_second = record { later = so.later; after = so.after; work = record { first = step; second = 0; is_first = so.work.is_first; is_second = record { is = refl }; is = refl } };
+      is = refl;
+    } in
+    omega (arith, last (work.first + (step + 0)) alone, work.is, so.work.is)
+
 -- ---- rows that are gone through
 
 module _ (tell : Telling) (p : Publication) (statements : Statements) (env : Env) where
@@ -243,10 +261,10 @@ module _ (tell : Telling) (p : Publication) (statements : Statements) (env : Env
 
   module _ (statement : Statement) (left : Statements) (now : Env) (old mid ran : ℕ) (so : IsGoing tell p statements env (Then statement left) now old mid) where
     -- one statement isn't done
-    pub going_stops : IsBounded (WorkOf tell p statement now) mid ran → IsBounded (WorkOfAll tell p statements env) old ran
-    going_stops first n work =
+    pub going_stops : IsBounded (WorkOfLast tell p statement now) mid ran → IsBounded (WorkOfAll tell p statements env) old ran
+    going_stops last n work =
         let (m, row, le) = so.bounded n work in
-        omega (arith, le, row.is, first row.first row.is_first)
+        omega (arith, le, last_stops tell p statement now mid ran last m row)
 
     -- and one is
     pub going_next : (later : Env) (given : List Ref) (new : ℕ) → After p.objects statement now later → given ≡ given_by statement later → IsCounted ran new (step_cost * (1 + length given))
@@ -293,8 +311,25 @@ module _ {s t : Statement} (same : s ≡ t) (tell : Telling) (p : Publication) (
   pub bounded_as : IsBounded (WorkOf tell p t env) old new → IsBounded (WorkOf tell p s env) old new
   bounded_as so = subst (λ (u : Statement). IsBounded (WorkOf tell p u env) old new) (sym same) so
 
+  pub last_as : IsBounded (WorkOfLast tell p t env) old new → IsBounded (WorkOfLast tell p s env) old new
+  last_as so = subst (λ (u : Statement). IsBounded (WorkOfLast tell p u env) old new) (sym same) so
+
   pub spent_as : IsSpent (WorkOf tell p t env) old new → IsSpent (WorkOf tell p s env) old new
   spent_as so = subst (λ (u : Statement). IsSpent (WorkOf tell p u env) old new) (sym same) so
+
+-- a statement that isn't done
+pub stops_as : {s t : Statement} (same : s ≡ t) (tell : Telling) (p : Publication) (env : Env) (old new : ℕ) → IsBounded (WorkOf tell p t env) old new → IsBounded (WorkOfLast tell p s env) old new
+stops_as {s = s} same tell p env old new so = row_stops p.objects s env old new (bounded_as same tell p env old new so)
+
+-- a recursion that isn't done: its start is counted, and no more references than it gives
+pub recursion_stops : (tell : Telling) (p : Publication) (start into : List ℕ) (how : Recursion) (env : Env) (old mid new : ℕ) → IsCounted old mid (step_cost * length (env start))
+    → IsBounded (OfSet (IsRefOf p.objects (values.IsReached p.objects how (env start))) (λ found. Steps (length found))) mid new → IsBounded (WorkOfLast tell p (Recurse start how into) env) old new
+recursion_stops tell p start into how env old mid new charged bounded n work =
+    let so = work.is_second in
+    let (refs, is, e) = so.after in
+    let given : so.later into ≡ refs = ap (λ (m : Env). m into) e ∙ ap (λ (b : Bool). if b then refs else env into) ((bytes_eq-Decides into into).1 refl) in
+    let few : OfSet (IsRefOf p.objects (values.IsReached p.objects how (env start))) (λ found. Steps (length found)) (step_cost * length refs) = record { set = refs; is_set = is; work = record { is = refl } } in
+    omega (arith, work.is, so.work.is, so.work.is_first.is, ap (λ (l : List Ref). length l) given, work.is_first.is, charged.not_more, bounded (step_cost * length refs) few)
 
 -- ---- budgets
 

@@ -17,7 +17,7 @@ ghost use Rattle.ql_eval.specs.Work.{HasNoClash, WorkOf, WorkOfQuery};
 ghost use Rattle.ql_eval.specs.Written.{HasWritten};
 ghost use Rattle.ql_eval.specs.internal.Links.{AreAllThere};
 ghost use Rattle.ql_eval.specs.internal.Giving.{AllSetsGiven};
-ghost use Rattle.ql_eval.specs.internal.Metering.{IsBounded, IsSpent};
+ghost use Rattle.ql_eval.specs.internal.Metering.{IsBounded, IsSpent, WorkOfLast};
 ghost use Rattle.ql_eval.specs.internal.Recalling.{AreAnswersGiven, AreAnswers};
 ghost use Rattle.tree_walk.specs.Uses.{nodes_around};
 
@@ -109,12 +109,18 @@ fn answer_statement<'s, 'q, W: Source, T: Sink>(
         × AreAnswers p (W.used source.new) memo.new.remembered.items)
         (NeededBy p (AskedBy p (statement_of statement.now) env))
         (nodes_around W.holds W.used source.old source.new) result }
-    ensures bounded { let env = lists_of sets.old.named.items in
+    ensures in_row { let env = lists_of sets.old.named.items in
         (p : Publication) → IsPublication p → W.under source.old p
         → AreAnswers p (W.used source.old) memo.old.remembered.items
         → AreAllThere p.objects env → IsTop (statement_of statement.now)
         → HasNoClash p (W.used source.new)
-        → IsBounded (WorkOf (form_text form) p (statement_of statement.now) env) meter.old.spent meter.new.spent }
+        → IsBounded (WorkOfLast (form_text form) p (statement_of statement.now) env) meter.old.spent meter.new.spent }
+    ensures bounded { OnOk result (let env = lists_of sets.old.named.items in
+        (p : Publication) → IsPublication p → W.under source.old p
+        → AreAnswers p (W.used source.old) memo.old.remembered.items
+        → AreAllThere p.objects env → IsTop (statement_of statement.now)
+        → HasNoClash p (W.used source.new)
+        → IsBounded (WorkOf (form_text form) p (statement_of statement.now) env) meter.old.spent meter.new.spent) }
     ensures spent { OnOk result (let env = lists_of sets.old.named.items in
         (p : Publication) → IsPublication p → W.under source.old p
         → AreAnswers p (W.used source.old) memo.old.remembered.items

@@ -1,6 +1,6 @@
 //! Chains of membership of any length, asked of a source.
 
-ghost use Rattle.std.specs.Prelude.{◌≡◌, ◌++◌, ℕ, IfErr, IfOk, List, OnOk};
+ghost use Rattle.std.specs.Prelude.{◌≡◌, ◌++◌, ℕ, IfErr, IfOk, List, OnOk, length};
 ghost use Rattle.std.specs.List.{Contains};
 ghost use Rattle.tree_node.specs.Outcomes.{Outcome};
 ghost use Rattle.osm_keys.specs.Publications.{IsPublication, Publication};
@@ -8,15 +8,19 @@ ghost use Rattle.ref_sets.specs.Adding.{Adds, From};
 ghost use Rattle.ref_sets.specs.Sets.{IsSetOf};
 ghost use Rattle.ql_eval.specs.Faults.{cause_of_evaluation};
 ghost use Rattle.ql_eval.specs.Questions.{NeededBy};
+ghost use Rattle.ql_eval.specs.Work.{HasNoClash, OfSet, Steps};
+ghost use Rattle.ql_eval.specs.internal.Affording.{AreApart};
 ghost use Rattle.ql_eval.specs.internal.Chains.{IsEnd, IsEndAsk, Leads, LeadsAsk};
 ghost use Rattle.ql_eval.specs.internal.Founds.{Goes, IsConsistent};
 ghost use Rattle.ql_eval.specs.internal.Links.{AreThere};
 ghost use Rattle.ql_eval.specs.internal.Giving.{AllGiven};
+ghost use Rattle.ql_eval.specs.internal.Metering.{IsBounded};
 ghost use Rattle.tree_walk.specs.Uses.{nodes_around};
 
 use crate::fault::EvalFault;
 use crate::found::Found;
 use crate::links::{members_there, referrers_of};
+use crate::meter::Meter;
 use crate::source::Source;
 use osm_model::{Kind, Ref};
 use ref_sets::RefSet;
@@ -32,10 +36,12 @@ pub(crate) enum Direction {
 }
 
 /// What one or more steps lead to from some references, as a set. What was found is gone on from in rounds, each
-/// reference once; cycles end where a round finds nothing new.
+/// reference once; cycles end where a round finds nothing new. Refused, as by the meter, where the references alone that
+/// were found so far pass the budget: whoever writes the set counts them.
 pub(crate) fn closure<W: Source>(
     alloc: Global,
     source: &mut W,
+    meter: &mut Meter,
     from: &[Ref],
     direction: Direction,
 ) -> Result<RefSet, EvalFault>
@@ -49,12 +55,18 @@ pub(crate) fn closure<W: Source>(
         → Outcome cause_of_evaluation (λ refs. IsSetOf refs (IsEnd direction p.objects from.now))
         (NeededBy p (IsEndAsk direction p.objects from.now))
         (nodes_around W.holds W.used source.old source.new) result }
+    ensures bounded { (p : Publication) → IsPublication p → W.under source.old p
+        → AreThere p.objects from.now → HasNoClash p (W.used source.new)
+        → IsBounded (OfSet (IsEnd direction p.objects from.now) (λ found. Steps (length found)))
+        meter.old.spent meter.new.spent }
+    ensures same { OnOk result (meter.new.spent ≡ meter.old.spent) }
 {
     let mut found = Found::new(alloc);
     let next = one_link(alloc, source, from, direction)?;
     add_all(next.as_slice(), &mut found)?;
     let mut at = 0;
     while at < found.refs.len() {
+        meter.afford(found.refs.len() as u64)?;
         let next = one_link(alloc, source, &found.refs[at..], direction)?;
         at = found.refs.len();
         add_all(next.as_slice(), &mut found)?;
@@ -95,6 +107,8 @@ fn add_all(names: &[Ref], found: &mut Found) -> Result<(), AllocError>
     ensures goes { OnOk result (Goes found.old.refs.items found.new.refs.items) }
     ensures added { OnOk result
         (Adds found.old.refs.items found.new.refs.items (Contains names.now)) }
+    ensures apart { OnOk result
+        (AreApart found.old.refs.items → AreApart found.new.refs.items) }
 {
     for name in names {
         found.add(*name)?;

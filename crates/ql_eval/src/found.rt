@@ -1,6 +1,7 @@
 //! References in the order of their finding.
 
 ghost use Rattle.std.specs.Prelude.{◌≡◌, [], OnOk};
+ghost use Rattle.ql_eval.specs.internal.Affording.{AreApart};
 ghost use Rattle.ql_eval.specs.internal.Founds.{AddsName, IsConsistent};
 
 use osm_model::Ref;
@@ -33,6 +34,7 @@ impl Found {
         requires { IsConsistent self.old }
         ensures consistent { OnOk result (IsConsistent self.new) }
         ensures added { OnOk result (AddsName name self.old.refs.items self.new.refs.items) }
+        ensures apart { OnOk result (AreApart self.old.refs.items → AreApart self.new.refs.items) }
     {
         if self.seen.insert(name)? {
             self.refs.push(name)?;

@@ -1,6 +1,6 @@
 //! Recursions from a set, asked of a source.
 
-ghost use Rattle.std.specs.Prelude.{◌≡◌, ℕ, IfErr, IfOk, List, OnOk};
+ghost use Rattle.std.specs.Prelude.{◌≡◌, ℕ, IfErr, IfOk, List, OnOk, length};
 ghost use Rattle.tree_node.specs.Outcomes.{Outcome};
 ghost use Rattle.osm_keys.specs.Publications.{IsPublication, Publication};
 ghost use Rattle.ql_syntax.specs.declared.recursion.Recursion.TheVariants as recursions;
@@ -10,13 +10,16 @@ ghost use Rattle.ql_meaning.specs.Values.{IsReached, IsRefOf};
 ghost use Rattle.ql_eval.specs.Asks.{AskedByRecursion};
 ghost use Rattle.ql_eval.specs.Faults.{cause_of_evaluation};
 ghost use Rattle.ql_eval.specs.Questions.{NeededBy};
+ghost use Rattle.ql_eval.specs.Work.{HasNoClash, OfSet, Steps};
 ghost use Rattle.ql_eval.specs.internal.Links.{AreThere, IsMemberAsk, IsMemberBelow};
 ghost use Rattle.ql_eval.specs.internal.Giving.{AllGiven};
+ghost use Rattle.ql_eval.specs.internal.Metering.{IsBounded};
 ghost use Rattle.tree_walk.specs.Uses.{nodes_around};
 
 use crate::chains::{Direction, closure};
 use crate::fault::EvalFault;
 use crate::links::{members_there, referrers_of};
+use crate::meter::Meter;
 use crate::source::Source;
 use osm_model::{Kind, Ref};
 use ql_syntax::Recursion;
@@ -25,10 +28,11 @@ use std::alloc::Global;
 use std::rc::Rc;
 
 /// What a recursion gives from a set. Where the query asked the same before, it is what was given then, and no tree is
-/// asked.
+/// asked. Refused, as by the meter, where what was reached so far passes the budget: whoever writes the set counts it.
 pub(crate) fn recurse_once<W: Source>(
     alloc: Global,
     source: &mut W,
+    meter: &mut Meter,
     how: Recursion,
     set: Rc<RefSet>,
 ) -> Result<Rc<RefSet>, EvalFault>
@@ -43,11 +47,16 @@ pub(crate) fn recurse_once<W: Source>(
         (λ refs. IsSetOf refs.value (IsRefOf p.objects (IsReached p.objects how set.value)))
         (NeededBy p (AskedByRecursion p.objects how set.value))
         (nodes_around W.holds W.used source.old source.new) result }
+    ensures bounded { (p : Publication) → IsPublication p → W.under source.old p
+        → AreThere p.objects set.value → HasNoClash p (W.used source.new)
+        → IsBounded (OfSet (IsRefOf p.objects (IsReached p.objects how set.value))
+        (λ found. Steps (length found))) meter.old.spent meter.new.spent }
+    ensures same { OnOk result (meter.new.spent ≡ meter.old.spent) }
 {
     if let Some(refs) = source.recalled(how, &set) {
         return Ok(refs.clone()?);
     }
-    let refs = Rc::new(alloc, recurse(alloc, source, how, &set)?)?;
+    let refs = Rc::new(alloc, recurse(alloc, source, meter, how, &set)?)?;
     source.remember(how, set, refs.clone()?)?;
     Ok(refs)
 }
@@ -56,6 +65,7 @@ pub(crate) fn recurse_once<W: Source>(
 fn recurse<W: Source>(
     alloc: Global,
     source: &mut W,
+    meter: &mut Meter,
     how: Recursion,
     set: &RefSet,
 ) -> Result<RefSet, EvalFault>
@@ -70,12 +80,17 @@ fn recurse<W: Source>(
         (λ refs. IsSetOf refs (IsRefOf p.objects (IsReached p.objects how set.now)))
         (NeededBy p (AskedByRecursion p.objects how set.now))
         (nodes_around W.holds W.used source.old source.new) result }
+    ensures bounded { (p : Publication) → IsPublication p → W.under source.old p
+        → AreThere p.objects set.now → HasNoClash p (W.used source.new)
+        → IsBounded (OfSet (IsRefOf p.objects (IsReached p.objects how set.now))
+        (λ found. Steps (length found))) meter.old.spent meter.new.spent }
+    ensures same { OnOk result (meter.new.spent ≡ meter.old.spent) }
 {
     match how {
         Recursion::Down => down(alloc, source, set),
         Recursion::Up => up(alloc, source, set),
-        Recursion::DownAll => closure(alloc, source, set.as_slice(), Direction::Down),
-        Recursion::UpAll => closure(alloc, source, set.as_slice(), Direction::Up),
+        Recursion::DownAll => closure(alloc, source, meter, set.as_slice(), Direction::Down),
+        Recursion::UpAll => closure(alloc, source, meter, set.as_slice(), Direction::Up),
     }
 }
 

@@ -15,7 +15,7 @@ ghost use Rattle.ql_eval.specs.Work.{HasNoClash, WorkOf, WorkOfAll};
 ghost use Rattle.ql_eval.specs.internal.Lawful.{CanRun, CanRunAll};
 ghost use Rattle.ql_eval.specs.internal.Links.{AreAllThere};
 ghost use Rattle.ql_eval.specs.internal.Giving.{AllGiven, AllSetsGiven};
-ghost use Rattle.ql_eval.specs.internal.Metering.{IsBounded, IsSpent};
+ghost use Rattle.ql_eval.specs.internal.Metering.{IsBounded, IsSpent, WorkOfLast};
 ghost use Rattle.ql_eval.specs.internal.Recalling.{AreAnswersGiven, AreAnswers};
 ghost use Rattle.tree_walk.specs.Uses.{nodes_around};
 
@@ -31,7 +31,8 @@ use ql_syntax::Stmt;
 use ref_sets::{NamedSets, RefSet};
 use std::alloc::Global;
 
-/// Runs a statement: the set that it writes is written. An out writes none.
+/// Runs a statement: the set that it writes is written. An out writes none. Refused for the budget once a part of its work
+/// passes that, or of its set, which is counted by whoever runs it.
 #[cycle(run)]
 pub(crate) fn run<'s, 'q, W: Source>(
     alloc: Global,
@@ -58,11 +59,16 @@ pub(crate) fn run<'s, 'q, W: Source>(
         × AreAnswers p (W.used source.new) memo.new.remembered.items)
         (NeededBy p (AskedBy p (statement_of statement.now) env))
         (nodes_around W.holds W.used source.old source.new) result }
-    ensures bounded { let env = lists_of sets.old.named.items in
+    ensures in_row { let env = lists_of sets.old.named.items in
         (tell : Telling) (p : Publication) → IsPublication p → W.under source.old p
         → AreAnswers p (W.used source.old) memo.old.remembered.items → AreAllThere p.objects env
         → CanRun (statement_of statement.now) → HasNoClash p (W.used source.new)
-        → IsBounded (WorkOf tell p (statement_of statement.now) env) meter.old.spent meter.new.spent }
+        → IsBounded (WorkOfLast tell p (statement_of statement.now) env) meter.old.spent meter.new.spent }
+    ensures bounded { OnOk result (let env = lists_of sets.old.named.items in
+        (tell : Telling) (p : Publication) → IsPublication p → W.under source.old p
+        → AreAnswers p (W.used source.old) memo.old.remembered.items → AreAllThere p.objects env
+        → CanRun (statement_of statement.now) → HasNoClash p (W.used source.new)
+        → IsBounded (WorkOf tell p (statement_of statement.now) env) meter.old.spent meter.new.spent) }
     ensures spent { OnOk result (let env = lists_of sets.old.named.items in
         (tell : Telling) (p : Publication) → IsPublication p → W.under source.old p
         → AreAnswers p (W.used source.old) memo.old.remembered.items → AreAllThere p.objects env
@@ -82,7 +88,7 @@ pub(crate) fn run<'s, 'q, W: Source>(
         Stmt::Recurse { from, how, into } => {
             let set = sets.shared(from.as_bytes())?;
             meter.charge(set.as_slice().len())?;
-            let refs = recurse_once(alloc, source, *how, set)?;
+            let refs = recurse_once(alloc, source, meter, *how, set)?;
             sets.write_shared(into.as_bytes(), refs)?;
             Ok(())
         }

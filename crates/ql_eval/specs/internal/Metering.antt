@@ -2,9 +2,9 @@
 use Rattle.std.specs.Prelude.{◌≤◌, ◌+◌, ◌-◌, ◌^◌, ℕ, ◌⊎◌}
 use Rattle.osm_keys.specs.Publications.{Publication}
 use Rattle.ql_meaning.specs.Meanings.{Telling}
-use Rattle.ql_syntax.specs.Statements.{Statements}
+use Rattle.ql_syntax.specs.Statements.{Statement, Statements}
 use Rattle.ref_sets.specs.NamedSets.{Env}
-use Rattle.ql_eval.specs.Work.{WorkOfAll}
+use Rattle.ql_eval.specs.Work.{InRow, Steps, WorkOf, WorkOfAll}
 
 -- the greatest count
 abbrev pub greatest : ℕ
@@ -22,6 +22,10 @@ pub record IsCounted (old new n : ℕ) : Type 0 where
 -- no more was counted than this work, which may not be done yet
 abbrev pub IsBounded : (ℕ → Type 0) → ℕ → ℕ → Type 0
 IsBounded Work old new = (n : ℕ) → Work n → new ≤ old + n
+
+-- the work of a statement that is the last one of a row, with its set
+abbrev pub WorkOfLast : Telling → Publication → Statement → Env → ℕ → Type 0
+WorkOfLast tell p statement env n = InRow p.objects statement env (WorkOf tell p statement env) (λ later. Steps 0) n
 
 -- there is such a work, and no less was counted
 abbrev pub IsSpent : (ℕ → Type 0) → ℕ → ℕ → Type 0

@@ -91,6 +91,47 @@ fn scans_are_refused_before_they_read(rt: HostRuntime) -> Result<(), Fail> {
     Ok(())
 }
 
+/// Relations, each of which lists the next one.
+const CHAIN: &str = "\
+r1 T Mr2@\n\
+r2 T Mr3@\n\
+r3 T Mr4@\n\
+r4 T Mr5@\n\
+r5 T Mr6@\n\
+r6 T Mr7@\n\
+r7 T Mr8@\n\
+r8 T M\n\
+";
+
+/// The first statement takes 5 steps: for the filter, the id, the candidate, itself and what it writes. The recursion takes one
+/// for its start, and then finds a relation a round, for which the tree's only node is read.
+#[test]
+fn recursions_end_where_the_budget_does(rt: HostRuntime) -> Result<(), Fail> {
+    let alloc = rt.alloc();
+    let snapshot = snapshot_of(alloc, CHAIN, Edition::One)?;
+    let text = "rel(1);>>;";
+    // The manifest and the node are read for the first statement.
+    assert_eq!(rt; refused(&rt, &snapshot, text, Some(599))?, 2);
+    for (found, most) in [
+        (1, 699),
+        (2, 799),
+        (3, 899),
+        (4, 999),
+        (5, 1099),
+        (6, 1199),
+        (7, 1299),
+    ] {
+        let reads = refused(&rt, &snapshot, text, Some(most))?;
+        assert_eq!(rt; reads, 2 + found, "{most}");
+    }
+    // All 7 are found then, and the statement itself is a step too.
+    assert_eq!(rt; refused(&rt, &snapshot, text, Some(1399))?, 9);
+    let query = parse(alloc, text.as_bytes())?;
+    let kept = evaluated(alloc, &snapshot, &query, Some(1400))?;
+    assert_eq!(rt; kept.map(|report| report.work), Ok(1400));
+    Ok(())
+}
+
 #[test]
 fn a_box_is_counted_within_memory(rt: HostRuntime) -> Result<(), Fail> {
     let alloc = rt.alloc();

@@ -47,7 +47,7 @@ loop-statement-preserved g c = record {
       let there = all_sets_there (form_text c.args.form) p all k one c.loop-statement-test.true c.statement-item.is mid so.0 so.1 in
       let under_now = g.met.W.Source.same_under _ _ p c.loop-statement.invariant.later under in
       let top = one_top all k one c.loop-statement-test.true c.statement-item.is query in
-      let first = c.answer_statement.ensures.bounded p is under_now so.3 there top clear in
+      let first = c.in_ok-answer_statement.ensures.bounded p is under_now so.3 there top clear in
       let after = (found_well (λ x used. used) clear (c.in_ok-answer_statement.ensures.answer p is under_now so.3 there top)).0 in
       let next = going_next (form_text c.args.form) p (statements_of all) nothing_named (statement_of one) (statements_of (drop (k + 1) all)) mid _ _ _ going (lists_of c.answer_statement.new.sets.named.items) c.written_by.result.now _ after c.written_by.ensures c.charge_run.ensures first (c.in_ok-answer_statement.ensures.spent p is under_now so.3 there top clear) in
       next;
@@ -83,7 +83,7 @@ returns-in_err-answer_statement-clause-bounded g c = λ p is under query clear.
     let there = all_sets_there (form_text c.args.form) p all k one c.loop-statement-test.true c.statement-item.is mid so.0 so.1 in
     let under_now = g.met.W.Source.same_under _ _ p c.loop-statement.invariant.later under in
     let top = one_top all k one c.loop-statement-test.true c.statement-item.is query in
-    let first = c.answer_statement.ensures.bounded p is under_now so.3 there top clear in
+    let first = c.answer_statement.ensures.in_row p is under_now so.3 there top clear in
     going_stops (form_text c.args.form) p (statements_of all) nothing_named (statement_of one) (statements_of (drop (k + 1) all)) mid _ _ _ going first
 
 pub returns-in_err-charge_run-clause-bounded : goal.returns-in_err-charge_run-clause-bounded
@@ -98,7 +98,7 @@ returns-in_err-charge_run-clause-bounded g c = λ p is under query clear.
     let there = all_sets_there (form_text c.args.form) p all k one c.loop-statement-test.true c.statement-item.is mid so.0 so.1 in
     let under_now = g.met.W.Source.same_under _ _ p c.loop-statement.invariant.later under in
     let top = one_top all k one c.loop-statement-test.true c.statement-item.is query in
-    let first = c.answer_statement.ensures.bounded p is under_now so.3 there top clear in
+    let first = c.in_ok-answer_statement.ensures.bounded p is under_now so.3 there top clear in
     let after = (found_well (λ x used. used) clear (c.in_ok-answer_statement.ensures.answer p is under_now so.3 there top)).0 in
     let next = going_next (form_text c.args.form) p (statements_of all) nothing_named (statement_of one) (statements_of (drop (k + 1) all)) mid _ _ _ going (lists_of c.answer_statement.new.sets.named.items) c.written_by.result.now _ after c.written_by.ensures c.charge_run.ensures first (c.in_ok-answer_statement.ensures.spent p is under_now so.3 there top clear) in
     going_bounded (form_text c.args.form) p (statements_of all) nothing_named (statements_of (drop (k + 1) all)) (lists_of c.answer_statement.new.sets.named.items) _ _ next

@@ -19,7 +19,7 @@ use Rattle.ql_eval.specs.internal.Giving.{AllGiven}
 use Rattle.ql_eval.specs.Work.{WorkOfOut}
 use Rattle.ql_eval.specs.internal.Metering.{IsBounded, IsSpent}
 use Rattle.ref_sets.proofs.shared.Results.{on_ok_as}
-use Rattle.ql_eval.proofs.MeterLemmas.{bounded_as, spent_as}
+use Rattle.ql_eval.proofs.MeterLemmas.{bounded_as, spent_as, stops_as}
 use Rattle.ql_eval.proofs.RecallLemmas.{given_later, recalled_later}
 use Rattle.ql_eval.proofs.answering.answer_statement.Goals as goal
 
@@ -56,10 +56,14 @@ returns-in_default g c = record {
       outcome_same (λ x needs. needs) (λ value so x needs. needs)
       (λ value so. (so.0, subst (λ (text : List ℕ). HasWritten (g.T.Sink.stands c.args.sink.now) (g.T.Sink.stands c.args.sink.now) text) (sym (told_nothing (form_text c.args.form) p.objects statement env can)) written_none, so.1))
       (c.run.ensures.answer p is under known there can);
-  bounded = λ p is under known there top clear.
+  in_row = λ p is under known there top clear.
       let statement = statement_of c.args.statement.now in
       let can : CanRun statement = elim (top_lawful statement top) [ inl can ↦ can | inr out ↦ absurd (no_out c.args.statement.now c.in_default.not-Print out) ] in
-      c.run.ensures.bounded (form_text c.args.form) p is under known there can clear;
+      c.run.ensures.in_row (form_text c.args.form) p is under known there can clear;
+  bounded = on_ok_as c.run.result (λ bounded p is under known there top clear.
+      let statement = statement_of c.args.statement.now in
+      let can : CanRun statement = elim (top_lawful statement top) [ inl can ↦ can | inr out ↦ absurd (no_out c.args.statement.now c.in_default.not-Print out) ] in
+      bounded (form_text c.args.form) p is under known there can clear) c.run.ensures.bounded;
   spent = on_ok_as c.run.result (λ spent p is under known there top clear.
       let statement = statement_of c.args.statement.now in
       let can : CanRun statement = elim (top_lawful statement top) [ inl can ↦ can | inr out ↦ absurd (no_out c.args.statement.now c.in_default.not-Print out) ] in
@@ -72,15 +76,25 @@ print-requires g c = subst (λ (l : List Ref). AllGiven (g.W.Source.gave c.args.
 pub returns-in-Print-clause-named : goal.returns-in-Print-clause-named
 returns-in-Print-clause-named g c = always_ok c.print.result (sets_later (lists_of c.args.sets.now.named.items) (λ r. g.met.W.Source.same_gave _ _ r c.print.ensures.later) c.requires.named)
 
+pub returns-in-Print-clause-in_row : goal.returns-in-Print-clause-in_row
+returns-in-Print-clause-in_row g c = λ p is under known there top clear.
+    let env = lists_of c.args.sets.now.named.items in
+    let out = c.in-Print.out in
+    let tell = form_text c.args.form in
+    let refs : c.get.result.now ≡ env out.from = subst (λ (name : List ℕ). c.get.result.now ≡ env name) c.as_bytes.ensures c.get.ensures in
+    stops_as (ap statement_of c.in-Print.is) tell p env _ _
+    (subst (λ (l : List Ref). IsBounded (WorkOfOut tell p l out.mode out.limit) c.args.meter.now.spent c.print.new.meter.spent) refs
+    (c.print.ensures.bounded p is under (subst (λ (rs : List Ref). AreThere p.objects rs) (sym refs) (there out.from)) clear))
+
 pub returns-in-Print-clause-bounded : goal.returns-in-Print-clause-bounded
-returns-in-Print-clause-bounded g c = λ p is under known there top clear.
+returns-in-Print-clause-bounded g c = always_ok c.print.result (λ p is under known there top clear.
     let env = lists_of c.args.sets.now.named.items in
     let out = c.in-Print.out in
     let tell = form_text c.args.form in
     let refs : c.get.result.now ≡ env out.from = subst (λ (name : List ℕ). c.get.result.now ≡ env name) c.as_bytes.ensures c.get.ensures in
     bounded_as (ap statement_of c.in-Print.is) tell p env _ _
     (subst (λ (l : List Ref). IsBounded (WorkOfOut tell p l out.mode out.limit) c.args.meter.now.spent c.print.new.meter.spent) refs
-    (c.print.ensures.bounded p is under (subst (λ (rs : List Ref). AreThere p.objects rs) (sym refs) (there out.from)) clear))
+    (c.print.ensures.bounded p is under (subst (λ (rs : List Ref). AreThere p.objects rs) (sym refs) (there out.from)) clear)))
 
 pub returns-in-Print-clause-spent : goal.returns-in-Print-clause-spent
 returns-in-Print-clause-spent g c = on_ok_as c.print.result (λ spent. λ p is under known there top clear.

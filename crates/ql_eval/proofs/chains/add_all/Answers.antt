@@ -14,6 +14,7 @@ loop-name-preserved c =
       consistent = c.in_ok-add.ensures.consistent;
       goes = λ j d lt. let before = so.goes j d lt in let after = one.goes j d before.0 in (after.0, after.1 ∙ before.1);
       added = adds_more names (λ (name r : Ref). name ≡ r) k _ c.loop-name-test.true (get_or_default names k _ _ c.loop-name-test.true) so.added one.adds;
+      apart = λ apart. c.in_ok-add.ensures.apart (so.apart apart);
     }
 
 pub returns-clause-added : goal.returns-clause-added

@@ -1,12 +1,17 @@
-use Rattle.std.proofs.Common.{◌≡◌, ◌-◌, List, [], length, take, drop, Ok, Err, refl, sym, ap, subst, ◌∙◌, arith}
+use Rattle.std.proofs.Common.{◌≡◌, ◌*◌, ◌-◌, ℕ, List, [], length, take, drop, Ok, Err, refl, sym, ap, subst, ◌∙◌, arith}
 use Rattle.std.proofs.lemmas.List.{take_all}
 use Rattle.std.specs.List.{Contains}
 use Rattle.osm_model.specs.declared.reference.Ref.{Ref}
 use Rattle.tree_node.proofs.shared.OutcomeLaws.{outcome_as, outcome_then, outcome_then_stops, uses}
 use Rattle.ref_sets.specs.Adding.{Adds}
 use Rattle.ql_eval.specs.Questions.{NeededBy}
-use Rattle.ql_eval.specs.internal.Chains.{AreChained, IsChainAsk}
+use Rattle.ql_eval.specs.Work.{OfSet, Steps, step_cost}
+use Rattle.ql_eval.specs.internal.Affording.{AreApart}
+use Rattle.ql_eval.specs.internal.Chains.{AreChained, IsChainAsk, IsEnd}
 use Rattle.ql_eval.specs.internal.Links.{AreThere}
+use Rattle.ql_eval.specs.internal.Metering.{IsBounded, IsCounted}
+use Rattle.ql_eval.proofs.AffordingLemmas.{found_bounded}
+use Rattle.ql_eval.proofs.MeterLemmas.{found_well, still}
 use Rattle.ql_eval.proofs.ChainLemmas.{ChainedWell, LedWell, asks_split, chain_ends, chained_all, chained_first, chained_next, ends_chain, first_needs, front_asks, front_stays, left_asks, left_ends, left_there, longer, needs_first}
 use Rattle.ref_sets.proofs.shared.Parts.{slice_is_rest}
 use Rattle.ql_eval.proofs.GivenLemmas.{added_given, all_later, none_given, rest_given, sorted_given}
@@ -16,6 +21,8 @@ use Rattle.ql_eval.proofs.chains.closure.Goals as goal
 pub loop-at-init : goal.loop-at-init
 loop-at-init g c = record {
   consistent = c.in_ok-add_all.ensures.consistent;
+  apart = c.in_ok-add_all.ensures.apart (subst (λ (l : List Ref). AreApart l) (sym c.new-found.ensures.empty) tt);
+  same = refl;
   within = omega arith;
   later = c.in_ok-next.ensures.later;
   walked = c.in_ok-next.ensures.walked;
@@ -48,6 +55,8 @@ loop-at-preserved g c =
     let goes = c.in_ok-add_all-2.ensures.goes in
     let grown = longer refs more goes in record {
       consistent = c.in_ok-add_all-2.ensures.consistent;
+      apart = c.in_ok-add_all-2.ensures.apart c.loop-at.invariant.apart;
+      same = c.in_ok-afford.ensures.same ∙ c.loop-at.invariant.same;
       within = omega (arith, grown);
       later = g.met.W.Source.chained _ _ _ c.loop-at.invariant.later c.one_link-in-loop-at.ensures.later;
       walked = g.met.W.Source.more_walks _ _ _ c.loop-at.invariant.later c.one_link-in-loop-at.ensures.later c.loop-at.invariant.walked c.in_ok-next-2.ensures.walked;
@@ -93,3 +102,32 @@ one_link-requires-in-loop-at g c =
 
 pub returns-clause-named : goal.returns-clause-named
 returns-clause-named g c = sorted_given c.loop-at.found.refs.items c.from_refs.result c.from_refs.ensures c.loop-at.invariant.named
+
+pub returns-in_err-afford-clause-bounded : goal.returns-in_err-afford-clause-bounded
+returns-in_err-afford-clause-bounded g c = λ p is under there clear.
+    let direction = c.args.direction in
+    let from = c.args.from.now in
+    let refs = c.loop-at.found.refs.items in
+    let so = found_well (λ x used. used) clear (c.loop-at.invariant.answer p is under there) in
+    let same : c.len-in-loop-at.result ≡ length refs = omega arith in
+    subst (λ (old : ℕ). IsBounded (OfSet (IsEnd direction p.objects from) (λ found. Steps (length found))) old c.afford.new.self.spent) c.loop-at.invariant.same
+    (found_bounded (IsEnd direction p.objects from) refs _ _ c.loop-at.invariant.apart so.sound
+    (subst (λ (n : ℕ). IsCounted c.loop-at.meter.spent c.afford.new.self.spent (step_cost * n)) same c.in_err-afford.ensures.counted))
+
+pub returns-in_err-next-2-clause-bounded : goal.returns-in_err-next-2-clause-bounded
+returns-in_err-next-2-clause-bounded g c = λ p is under there clear.
+    subst (λ (new : ℕ). IsBounded (OfSet (IsEnd c.args.direction p.objects c.args.from.now) (λ found. Steps (length found))) c.args.meter.now.spent new) (sym (c.in_ok-afford.ensures.same ∙ c.loop-at.invariant.same)) (still _ _)
+
+pub returns-in_err-add_all-2-clause-bounded : goal.returns-in_err-add_all-2-clause-bounded
+returns-in_err-add_all-2-clause-bounded g c = λ p is under there clear.
+    subst (λ (new : ℕ). IsBounded (OfSet (IsEnd c.args.direction p.objects c.args.from.now) (λ found. Steps (length found))) c.args.meter.now.spent new) (sym (c.in_ok-afford.ensures.same ∙ c.loop-at.invariant.same)) (still _ _)
+
+pub returns-clause-bounded : goal.returns-clause-bounded
+returns-clause-bounded g c = λ p is under there clear.
+    subst (λ (new : ℕ). IsBounded (OfSet (IsEnd c.args.direction p.objects c.args.from.now) (λ found. Steps (length found))) c.args.meter.now.spent new) (sym c.loop-at.invariant.same) (still _ _)
+
+pub returns-in_err-next-clause-bounded : goal.returns-in_err-next-clause-bounded
+returns-in_err-next-clause-bounded g c = λ p is under there clear. still _ _
+
+pub returns-in_err-add_all-clause-bounded : goal.returns-in_err-add_all-clause-bounded
+returns-in_err-add_all-clause-bounded g c = λ p is under there clear. still _ _

@@ -1,8 +1,9 @@
-use Rattle.std.proofs.Common.{◌-◌, ◌^◌, ◌≤◌, length, take, Ok}
+use Rattle.std.proofs.Common.{◌≡◌, ◌-◌, ◌^◌, ◌≤◌, length, take, Ok}
 use Rattle.tree_node.specs.Outcomes.{Outcome}
 use Rattle.tree_node.proofs.shared.OutcomeLaws.{uses}
 use Rattle.ql_eval.specs.internal.Giving.{AllGiven}
 use Rattle.osm_keys.specs.Publications.{IsPublication, Publication}
+use Rattle.ql_eval.specs.internal.Affording.{AreApart}
 use Rattle.ql_eval.specs.internal.Founds.{IsConsistent}
 use Rattle.ql_eval.specs.Faults.{cause_of_evaluation}
 use Rattle.ql_eval.specs.Questions.{NeededBy}
@@ -13,6 +14,8 @@ use Rattle.ql_eval.proofs.chains.closure.Given as goal
 abbrev pub invariant-loop-at : goal.invariant-loop-at
 invariant-loop-at g l = record {
   consistent : IsConsistent l.found;
+  apart : AreApart l.found.refs.items;
+  same : l.meter.spent ≡ l.fn.meter.spent;
   within : l.at ≤ length l.found.refs.items;
   later : g.W.Source.later l.fn.source l.source;
   walked : g.W.Source.walked l.fn.source l.source;

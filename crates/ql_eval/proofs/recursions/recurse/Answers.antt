@@ -1,10 +1,15 @@
-use Rattle.std.proofs.Common.{List, sym, subst}
+use Rattle.std.proofs.Common.{ℕ, List, length, refl, sym, subst}
 use Rattle.osm_model.specs.declared.reference.Ref.{Ref}
 use Rattle.tree_node.proofs.shared.OutcomeLaws.{outcome_same, uses}
 use Rattle.ql_syntax.specs.declared.recursion.Recursion.{Recursion}
 use Rattle.ql_syntax.specs.declared.recursion.Recursion.TheVariants as recursions
 use Rattle.ql_eval.specs.internal.Links.{AreThere}
-use Rattle.ql_eval.proofs.EndLemmas.{RecursedWell, down_all_needs, down_all_set, needs_down_all, needs_up_all, up_all_needs, up_all_set}
+use Rattle.ql_meaning.specs.Values.{IsReached, IsRefOf}
+use Rattle.ql_eval.specs.Work.{OfSet, Steps}
+use Rattle.ql_eval.specs.internal.Metering.{IsBounded}
+use Rattle.ql_eval.proofs.EndLemmas.{RecursedWell, down_all_bounded, down_all_needs, down_all_set, needs_down_all, needs_up_all, up_all_bounded, up_all_needs, up_all_set}
+use Rattle.ql_eval.proofs.GivenLemmas.{always_ok}
+use Rattle.ql_eval.proofs.MeterLemmas.{still}
 use Rattle.ql_eval.specs.internal.Giving.{AllGiven}
 use Rattle.ql_eval.proofs.recursions.recurse.Goals as goal
 
@@ -41,3 +46,33 @@ closure-requires g c = subst (λ (l : List Ref). AllGiven (g.W.Source.gave c.arg
 
 pub closure-requires-in-UpAll : goal.closure-requires-in-UpAll
 closure-requires-in-UpAll g c = subst (λ (l : List Ref). AllGiven (g.W.Source.gave c.args.source.now) l) (sym c.as_slice-in-UpAll.ensures.value) c.requires
+
+pub returns-in-Down-clause-bounded : goal.returns-in-Down-clause-bounded
+returns-in-Down-clause-bounded g c = λ p is under there clear. still _ _
+
+pub returns-in-Down-clause-same : goal.returns-in-Down-clause-same
+returns-in-Down-clause-same g c = always_ok c.down.result refl
+
+pub returns-in-Up-clause-bounded : goal.returns-in-Up-clause-bounded
+returns-in-Up-clause-bounded g c = λ p is under there clear. still _ _
+
+pub returns-in-Up-clause-same : goal.returns-in-Up-clause-same
+returns-in-Up-clause-same g c = always_ok c.up.result refl
+
+pub returns-in-DownAll-clause-bounded : goal.returns-in-DownAll-clause-bounded
+returns-in-DownAll-clause-bounded g c = λ p is under there clear.
+    let names = c.as_slice.result.now in
+    let are = subst (λ (l : List Ref). AreThere p.objects l) (sym c.as_slice.ensures.value) there in
+    let Reaches : Recursion → List Ref → Type 0 = λ how l. IsBounded (OfSet (IsRefOf p.objects (IsReached p.objects how l)) (λ found. Steps (length found))) c.args.meter.now.spent c.closure.new.meter.spent in
+    subst (λ (how : Recursion). Reaches how c.args.set.now) (sym c.in-DownAll.is)
+    (subst (λ (l : List Ref). Reaches recursions.DownAll l) c.as_slice.ensures.value
+    (down_all_bounded p is.set names are (λ found. Steps (length found)) _ _ (c.closure.ensures.bounded p is under are clear)))
+
+pub returns-in-UpAll-clause-bounded : goal.returns-in-UpAll-clause-bounded
+returns-in-UpAll-clause-bounded g c = λ p is under there clear.
+    let names = c.as_slice-in-UpAll.result.now in
+    let are = subst (λ (l : List Ref). AreThere p.objects l) (sym c.as_slice-in-UpAll.ensures.value) there in
+    let Reaches : Recursion → List Ref → Type 0 = λ how l. IsBounded (OfSet (IsRefOf p.objects (IsReached p.objects how l)) (λ found. Steps (length found))) c.args.meter.now.spent c.closure-in-UpAll.new.meter.spent in
+    subst (λ (how : Recursion). Reaches how c.args.set.now) (sym c.in-UpAll.is)
+    (subst (λ (l : List Ref). Reaches recursions.UpAll l) c.as_slice-in-UpAll.ensures.value
+    (up_all_bounded p is.set names are (λ found. Steps (length found)) _ _ (c.closure-in-UpAll.ensures.bounded p is under are clear)))

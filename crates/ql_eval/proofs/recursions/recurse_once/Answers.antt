@@ -1,4 +1,4 @@
-use Rattle.std.proofs.Common.{List, Ok, sym, subst, ◌∙◌}
+use Rattle.std.proofs.Common.{ℕ, List, length, Ok, sym, subst, ◌∙◌}
 use Rattle.std.specs.List.{Contains}
 use Rattle.osm_model.specs.declared.reference.Ref.{Ref}
 use Rattle.tree_node.proofs.shared.OutcomeLaws.{uses}
@@ -6,7 +6,10 @@ use Rattle.ref_sets.specs.Sets.{IsSetOf}
 use Rattle.ql_meaning.specs.Values.{IsReached, IsRefOf}
 use Rattle.ql_eval.specs.internal.Links.{AreThere}
 use Rattle.ql_eval.specs.internal.Remembering.{IsRecalled}
+use Rattle.ql_eval.specs.Work.{OfSet, Steps}
+use Rattle.ql_eval.specs.internal.Metering.{IsBounded}
 use Rattle.ql_eval.proofs.EndLemmas.{RecursedWell}
+use Rattle.ql_eval.proofs.MeterLemmas.{still}
 use Rattle.ql_eval.proofs.RememberLemmas.{outcome_kept, recalled_again, recalled_now}
 use Rattle.ql_eval.proofs.recursions.recurse_once.Goals as goal
 
@@ -51,3 +54,27 @@ returns-clause-answer g c = λ p is under there.
     (λ so. subst (λ (l : List Ref). IsSetOf l (IsRefOf p.objects (IsReached p.objects how c.args.set.value))) (sym c.in_ok-refs.ensures.ok) so)
     (subst (λ (l : List Ref). RecursedWell p how l shelf (Ok c.in_ok-recurse.field-0)) c.deref-2.ensures
     (c.in_ok-recurse.ensures.answer p is under (subst (λ (l : List Ref). AreThere p.objects l) (sym c.deref-2.ensures) there)))
+
+pub returns-in-Some-clause-bounded : goal.returns-in-Some-clause-bounded
+returns-in-Some-clause-bounded g c = λ p is under there clear. still _ _
+
+pub returns-in_err-recurse-clause-bounded : goal.returns-in_err-recurse-clause-bounded
+returns-in_err-recurse-clause-bounded g c = λ p is under there clear.
+    subst (λ (l : List Ref). IsBounded (OfSet (IsRefOf p.objects (IsReached p.objects c.args.how l)) (λ found. Steps (length found))) c.args.meter.now.spent c.recurse.new.meter.spent) c.deref-2.ensures
+    (c.recurse.ensures.bounded p is under (subst (λ (l : List Ref). AreThere p.objects l) (sym c.deref-2.ensures) there) clear)
+
+pub returns-in_err-refs-clause-bounded : goal.returns-in_err-refs-clause-bounded
+returns-in_err-refs-clause-bounded g c = λ p is under there clear.
+    subst (λ (new : ℕ). IsBounded (OfSet (IsRefOf p.objects (IsReached p.objects c.args.how c.args.set.value)) (λ found. Steps (length found))) c.args.meter.now.spent new) (sym c.in_ok-recurse.ensures.same) (still _ _)
+
+pub returns-in_err-clone-2-clause-bounded : goal.returns-in_err-clone-2-clause-bounded
+returns-in_err-clone-2-clause-bounded g c = λ p is under there clear.
+    subst (λ (new : ℕ). IsBounded (OfSet (IsRefOf p.objects (IsReached p.objects c.args.how c.args.set.value)) (λ found. Steps (length found))) c.args.meter.now.spent new) (sym c.in_ok-recurse.ensures.same) (still _ _)
+
+pub returns-in_err-remember-clause-bounded : goal.returns-in_err-remember-clause-bounded
+returns-in_err-remember-clause-bounded g c = λ p is under there clear.
+    subst (λ (new : ℕ). IsBounded (OfSet (IsRefOf p.objects (IsReached p.objects c.args.how c.args.set.value)) (λ found. Steps (length found))) c.args.meter.now.spent new) (sym c.in_ok-recurse.ensures.same) (still _ _)
+
+pub returns-clause-bounded : goal.returns-clause-bounded
+returns-clause-bounded g c = λ p is under there clear.
+    subst (λ (new : ℕ). IsBounded (OfSet (IsRefOf p.objects (IsReached p.objects c.args.how c.args.set.value)) (λ found. Steps (length found))) c.args.meter.now.spent new) (sym c.in_ok-recurse.ensures.same) (still _ _)

@@ -22,10 +22,10 @@ use Rattle.ql_eval.proofs.GivenLemmas.{all_appended, all_later, part_given, put_
 use Rattle.ql_eval.specs.internal.Giving.{AllGiven}
 use Rattle.ql_eval.specs.internal.Recalling.{AreAnswers}
 use Rattle.ql_eval.proofs.RecallLemmas.{given_later, recalled_later}
-use Rattle.ql_eval.specs.Work.{WorkOf, WorkOfAll, WorkOfSelect, step_cost}
-use Rattle.ql_eval.specs.internal.Metering.{IsBounded, IsCounted, IsSpent}
-use Rattle.ql_eval.proofs.MeterLemmas.{bounded_as, clear_before, found_well, going_at, going_bounded, going_next, going_stops, gone_all, nothing_spent, row_bounded, row_spent, row_stops, spent_as, steps_bounded, steps_spent, still}
-use Rattle.ql_syntax.specs.Statements.{Statement}
+use Rattle.ql_eval.specs.Work.{OfSet, Steps, WorkOf, WorkOfAll, WorkOfSelect, step_cost}
+use Rattle.ql_eval.specs.internal.Metering.{IsBounded, IsCounted, IsSpent, WorkOfLast}
+use Rattle.ql_eval.proofs.MeterLemmas.{bounded_as, clear_before, found_well, going_at, going_bounded, going_next, going_stops, gone_all, last_as, last_stops, nothing_spent, recursion_stops, row_bounded, row_spent, row_stops, spent_as, steps_bounded, steps_spent, still, stops_as}
+use Rattle.ql_syntax.specs.Statements.{Recurse, Statement}
 use Rattle.ql_eval.specs.Absences.{HasIdOf, IsAskedById}
 use Rattle.ql_eval.proofs.AbsenceLemmas.{part_asked, union_asked}
 use Rattle.ql_eval.proofs.run.+run.Goals as goal
@@ -220,7 +220,7 @@ run_all-loop-part-preserved g t c = record {
       let there_now = (after_all_there p.objects (statements_of (take k parts)) env mid c.loop-part.given.items so.0 there).0 in
       let under_now = g.met.W.Source.same_under _ _ p c.loop-part.invariant.later under in
       let can_now = one_lawful parts k part c.loop-part-test.true c.part-item.is can in
-      let first = c.run.ensures.bounded tell p is under_now so.1 there_now can_now clear in
+      let first = c.in_ok-run.ensures.bounded tell p is under_now so.1 there_now can_now clear in
       let after = found_well (λ x used. used) clear (c.in_ok-run.ensures.answer p is under_now so.1 there_now can_now) in
       let next = going_next tell p (statements_of parts) env (statement_of part) (statements_of (drop (k + 1) parts)) mid _ _ _ going (lists_of c.run.new.sets.named.items) c.written_by-written.result.now _ after.0 c.written_by-written.ensures c.charge_run.ensures first (c.in_ok-run.ensures.spent tell p is under_now so.1 there_now can_now clear) in
       next;
@@ -251,20 +251,20 @@ run-returns-in_ok-write-in-Minus-clause-named g t c =
     (subst (λ (l : List Ref). AllGiven (g.W.Source.gave c.run.new.source) l) (sym first_is) (written_given (statement_of c.deref-in-Minus-2.result.now) (lists_of c.run.new.sets.named.items) c.in_ok-run-in-Minus.ensures.named))))
     (c.in_ok-run-in-Minus-2.ensures.named)
 
-pub run-returns-in_err-refs-in-Select-clause-bounded : goal.run-returns-in_err-refs-in-Select-clause-bounded
-run-returns-in_err-refs-in-Select-clause-bounded g t c = λ tell p is under known there can clear.
+pub run-returns-in_err-refs-in-Select-clause-in_row : goal.run-returns-in_err-refs-in-Select-clause-in_row
+run-returns-in_err-refs-in-Select-clause-in_row g t c = λ tell p is under known there can clear.
     let env = lists_of c.args.sets.now.named.items in
     let kind = c.in-Select.kind in
     let lawful = subst (λ (fs : List Filter). AllByRecursion (Allows kind) (filters_of fs)) (sym c.deref.ensures.value) (can_run_as (ap statement_of c.in-Select.is) can) in
-    bounded_as (ap statement_of c.in-Select.is) tell p env _ _
+    stops_as (ap statement_of c.in-Select.is) tell p env _ _
     (subst (λ (fs : List Filter). IsBounded (WorkOfSelect p env kind (filters_of fs)) c.args.meter.now.spent c.select_once.new.meter.spent) c.deref.ensures.value (c.select_once.ensures.bounded p is under known there lawful clear))
 
-pub run-returns-in_err-write_shared-in-Select-clause-bounded : goal.run-returns-in_err-write_shared-in-Select-clause-bounded
-run-returns-in_err-write_shared-in-Select-clause-bounded g t c = λ tell p is under known there can clear.
+pub run-returns-in_err-write_shared-in-Select-clause-in_row : goal.run-returns-in_err-write_shared-in-Select-clause-in_row
+run-returns-in_err-write_shared-in-Select-clause-in_row g t c = λ tell p is under known there can clear.
     let env = lists_of c.args.sets.now.named.items in
     let kind = c.in-Select.kind in
     let lawful = subst (λ (fs : List Filter). AllByRecursion (Allows kind) (filters_of fs)) (sym c.deref.ensures.value) (can_run_as (ap statement_of c.in-Select.is) can) in
-    bounded_as (ap statement_of c.in-Select.is) tell p env _ _
+    stops_as (ap statement_of c.in-Select.is) tell p env _ _
     (subst (λ (fs : List Filter). IsBounded (WorkOfSelect p env kind (filters_of fs)) c.args.meter.now.spent c.select_once.new.meter.spent) c.deref.ensures.value (c.select_once.ensures.bounded p is under known there lawful clear))
 
 pub run-returns-in_ok-write_shared-in-Select-clause-bounded : goal.run-returns-in_ok-write_shared-in-Select-clause-bounded
@@ -275,6 +275,14 @@ run-returns-in_ok-write_shared-in-Select-clause-bounded g t c = λ tell p is und
     bounded_as (ap statement_of c.in-Select.is) tell p env _ _
     (subst (λ (fs : List Filter). IsBounded (WorkOfSelect p env kind (filters_of fs)) c.args.meter.now.spent c.select_once.new.meter.spent) c.deref.ensures.value (c.select_once.ensures.bounded p is under known there lawful clear))
 
+pub run-returns-in_ok-write_shared-in-Select-clause-in_row : goal.run-returns-in_ok-write_shared-in-Select-clause-in_row
+run-returns-in_ok-write_shared-in-Select-clause-in_row g t c = λ tell p is under known there can clear.
+    let env = lists_of c.args.sets.now.named.items in
+    let kind = c.in-Select.kind in
+    let lawful = subst (λ (fs : List Filter). AllByRecursion (Allows kind) (filters_of fs)) (sym c.deref.ensures.value) (can_run_as (ap statement_of c.in-Select.is) can) in
+    stops_as (ap statement_of c.in-Select.is) tell p env _ _
+    (subst (λ (fs : List Filter). IsBounded (WorkOfSelect p env kind (filters_of fs)) c.args.meter.now.spent c.select_once.new.meter.spent) c.deref.ensures.value (c.select_once.ensures.bounded p is under known there lawful clear))
+
 pub run-returns-in_ok-write_shared-in-Select-clause-spent : goal.run-returns-in_ok-write_shared-in-Select-clause-spent
 run-returns-in_ok-write_shared-in-Select-clause-spent g t c = λ tell p is under known there can clear.
     let env = lists_of c.args.sets.now.named.items in
@@ -283,32 +291,36 @@ run-returns-in_ok-write_shared-in-Select-clause-spent g t c = λ tell p is under
     spent_as (ap statement_of c.in-Select.is) tell p env _ _
     (subst (λ (fs : List Filter). IsSpent (WorkOfSelect p env kind (filters_of fs)) c.args.meter.now.spent c.select_once.new.meter.spent) c.deref.ensures.value (c.in_ok-refs-in-Select.ensures.spent p is under known there lawful clear))
 
-pub run-returns-in_err-set-in-Recurse-clause-bounded : goal.run-returns-in_err-set-in-Recurse-clause-bounded
-run-returns-in_err-set-in-Recurse-clause-bounded g t c = λ tell p is under known there can clear. still _ _
+pub run-returns-in_err-set-in-Recurse-clause-in_row : goal.run-returns-in_err-set-in-Recurse-clause-in_row
+run-returns-in_err-set-in-Recurse-clause-in_row g t c = λ tell p is under known there can clear. still _ _
 
-pub run-returns-in_err-charge-in-Recurse-clause-bounded : goal.run-returns-in_err-charge-in-Recurse-clause-bounded
-run-returns-in_err-charge-in-Recurse-clause-bounded g t c = λ tell p is under known there can clear.
+pub run-returns-in_err-charge-in-Recurse-clause-in_row : goal.run-returns-in_err-charge-in-Recurse-clause-in_row
+run-returns-in_err-charge-in-Recurse-clause-in_row g t c = λ tell p is under known there can clear.
     let env = lists_of c.args.sets.now.named.items in
     let set = c.deref-in-Recurse.ensures ∙ c.in_ok-set-in-Recurse.ensures ∙ ap env c.as_bytes-in-Recurse.ensures in
     let count = ap (λ (l : List Ref). length l) (c.as_slice.ensures.value ∙ set) in
-    bounded_as (ap statement_of c.in-Recurse.is) tell p env _ _
+    stops_as (ap statement_of c.in-Recurse.is) tell p env _ _
     (steps_bounded (length (env c.in-Recurse.«from»)) _ _ (subst (λ (n : ℕ). IsCounted c.args.meter.now.spent c.charge.new.self.spent (step_cost * n)) count c.charge.ensures))
 
-pub run-returns-in_err-refs-in-Recurse-clause-bounded : goal.run-returns-in_err-refs-in-Recurse-clause-bounded
-run-returns-in_err-refs-in-Recurse-clause-bounded g t c = λ tell p is under known there can clear.
+pub run-returns-in_err-refs-in-Recurse-clause-in_row : goal.run-returns-in_err-refs-in-Recurse-clause-in_row
+run-returns-in_err-refs-in-Recurse-clause-in_row g t c = λ tell p is under known there can clear.
+    let env = lists_of c.args.sets.now.named.items in
+    let named = c.in_ok-set-in-Recurse.ensures ∙ ap env c.as_bytes-in-Recurse.ensures in
+    let count = ap (λ (l : List Ref). length l) (c.as_slice.ensures.value ∙ c.deref-in-Recurse.ensures ∙ named) in
+    let found = c.recurse_once.ensures.bounded p is under (subst (λ (l : List Ref). AreThere p.objects l) (sym named) (there c.in-Recurse.«from»)) clear in
+    last_as (ap statement_of c.in-Recurse.is) tell p env _ _
+    (recursion_stops tell p c.in-Recurse.«from» c.in-Recurse.into c.in-Recurse.how env _ _ _
+    (subst (λ (n : ℕ). IsCounted c.args.meter.now.spent c.charge.new.self.spent (step_cost * n)) count c.charge.ensures)
+    (subst (λ (l : List Ref). IsBounded (OfSet (IsRefOf p.objects (IsReached p.objects c.in-Recurse.how l)) (λ found. Steps (length found))) c.charge.new.self.spent c.recurse_once.new.meter.spent) named found))
+
+pub run-returns-in_err-write_shared-in-Recurse-clause-in_row : goal.run-returns-in_err-write_shared-in-Recurse-clause-in_row
+run-returns-in_err-write_shared-in-Recurse-clause-in_row g t c = λ tell p is under known there can clear.
     let env = lists_of c.args.sets.now.named.items in
     let set = c.deref-in-Recurse.ensures ∙ c.in_ok-set-in-Recurse.ensures ∙ ap env c.as_bytes-in-Recurse.ensures in
     let count = ap (λ (l : List Ref). length l) (c.as_slice.ensures.value ∙ set) in
-    bounded_as (ap statement_of c.in-Recurse.is) tell p env _ _
-    (steps_bounded (length (env c.in-Recurse.«from»)) _ _ (subst (λ (n : ℕ). IsCounted c.args.meter.now.spent c.charge.new.self.spent (step_cost * n)) count c.charge.ensures))
-
-pub run-returns-in_err-write_shared-in-Recurse-clause-bounded : goal.run-returns-in_err-write_shared-in-Recurse-clause-bounded
-run-returns-in_err-write_shared-in-Recurse-clause-bounded g t c = λ tell p is under known there can clear.
-    let env = lists_of c.args.sets.now.named.items in
-    let set = c.deref-in-Recurse.ensures ∙ c.in_ok-set-in-Recurse.ensures ∙ ap env c.as_bytes-in-Recurse.ensures in
-    let count = ap (λ (l : List Ref). length l) (c.as_slice.ensures.value ∙ set) in
-    bounded_as (ap statement_of c.in-Recurse.is) tell p env _ _
-    (steps_bounded (length (env c.in-Recurse.«from»)) _ _ (subst (λ (n : ℕ). IsCounted c.args.meter.now.spent c.charge.new.self.spent (step_cost * n)) count c.charge.ensures))
+    stops_as (ap statement_of c.in-Recurse.is) tell p env _ _
+    (subst (λ (new : ℕ). IsBounded (WorkOf tell p (Recurse c.in-Recurse.«from» c.in-Recurse.how c.in-Recurse.into) env) c.args.meter.now.spent new) (sym c.in_ok-refs-in-Recurse.ensures.same)
+    (steps_bounded (length (env c.in-Recurse.«from»)) _ _ (subst (λ (n : ℕ). IsCounted c.args.meter.now.spent c.charge.new.self.spent (step_cost * n)) count c.charge.ensures)))
 
 pub run-returns-in_ok-write_shared-in-Recurse-clause-bounded : goal.run-returns-in_ok-write_shared-in-Recurse-clause-bounded
 run-returns-in_ok-write_shared-in-Recurse-clause-bounded g t c = λ tell p is under known there can clear.
@@ -316,7 +328,17 @@ run-returns-in_ok-write_shared-in-Recurse-clause-bounded g t c = λ tell p is un
     let set = c.deref-in-Recurse.ensures ∙ c.in_ok-set-in-Recurse.ensures ∙ ap env c.as_bytes-in-Recurse.ensures in
     let count = ap (λ (l : List Ref). length l) (c.as_slice.ensures.value ∙ set) in
     bounded_as (ap statement_of c.in-Recurse.is) tell p env _ _
-    (steps_bounded (length (env c.in-Recurse.«from»)) _ _ (subst (λ (n : ℕ). IsCounted c.args.meter.now.spent c.charge.new.self.spent (step_cost * n)) count c.charge.ensures))
+    (subst (λ (new : ℕ). IsBounded (WorkOf tell p (Recurse c.in-Recurse.«from» c.in-Recurse.how c.in-Recurse.into) env) c.args.meter.now.spent new) (sym c.in_ok-refs-in-Recurse.ensures.same)
+    (steps_bounded (length (env c.in-Recurse.«from»)) _ _ (subst (λ (n : ℕ). IsCounted c.args.meter.now.spent c.charge.new.self.spent (step_cost * n)) count c.charge.ensures)))
+
+pub run-returns-in_ok-write_shared-in-Recurse-clause-in_row : goal.run-returns-in_ok-write_shared-in-Recurse-clause-in_row
+run-returns-in_ok-write_shared-in-Recurse-clause-in_row g t c = λ tell p is under known there can clear.
+    let env = lists_of c.args.sets.now.named.items in
+    let set = c.deref-in-Recurse.ensures ∙ c.in_ok-set-in-Recurse.ensures ∙ ap env c.as_bytes-in-Recurse.ensures in
+    let count = ap (λ (l : List Ref). length l) (c.as_slice.ensures.value ∙ set) in
+    stops_as (ap statement_of c.in-Recurse.is) tell p env _ _
+    (subst (λ (new : ℕ). IsBounded (WorkOf tell p (Recurse c.in-Recurse.«from» c.in-Recurse.how c.in-Recurse.into) env) c.args.meter.now.spent new) (sym c.in_ok-refs-in-Recurse.ensures.same)
+    (steps_bounded (length (env c.in-Recurse.«from»)) _ _ (subst (λ (n : ℕ). IsCounted c.args.meter.now.spent c.charge.new.self.spent (step_cost * n)) count c.charge.ensures)))
 
 pub run-returns-in_ok-write_shared-in-Recurse-clause-spent : goal.run-returns-in_ok-write_shared-in-Recurse-clause-spent
 run-returns-in_ok-write_shared-in-Recurse-clause-spent g t c = λ tell p is under known there can clear.
@@ -324,42 +346,46 @@ run-returns-in_ok-write_shared-in-Recurse-clause-spent g t c = λ tell p is unde
     let set = c.deref-in-Recurse.ensures ∙ c.in_ok-set-in-Recurse.ensures ∙ ap env c.as_bytes-in-Recurse.ensures in
     let count = ap (λ (l : List Ref). length l) (c.as_slice.ensures.value ∙ set) in
     spent_as (ap statement_of c.in-Recurse.is) tell p env _ _
-    (steps_spent (length (env c.in-Recurse.«from»)) _ _ (subst (λ (n : ℕ). IsCounted c.args.meter.now.spent c.charge.new.self.spent (step_cost * n)) count c.charge.ensures))
+    (subst (λ (new : ℕ). IsSpent (WorkOf tell p (Recurse c.in-Recurse.«from» c.in-Recurse.how c.in-Recurse.into) env) c.args.meter.now.spent new) (sym c.in_ok-refs-in-Recurse.ensures.same)
+    (steps_spent (length (env c.in-Recurse.«from»)) _ _ (subst (λ (n : ℕ). IsCounted c.args.meter.now.spent c.charge.new.self.spent (step_cost * n)) count c.charge.ensures)))
 
-pub run-returns-in_err-refs-in-Item-clause-bounded : goal.run-returns-in_err-refs-in-Item-clause-bounded
-run-returns-in_err-refs-in-Item-clause-bounded g t c = λ tell p is under known there can clear. still _ _
+pub run-returns-in_err-refs-in-Item-clause-in_row : goal.run-returns-in_err-refs-in-Item-clause-in_row
+run-returns-in_err-refs-in-Item-clause-in_row g t c = λ tell p is under known there can clear. still _ _
 
-pub run-returns-in_err-write_shared-in-Item-clause-bounded : goal.run-returns-in_err-write_shared-in-Item-clause-bounded
-run-returns-in_err-write_shared-in-Item-clause-bounded g t c = λ tell p is under known there can clear. still _ _
+pub run-returns-in_err-write_shared-in-Item-clause-in_row : goal.run-returns-in_err-write_shared-in-Item-clause-in_row
+run-returns-in_err-write_shared-in-Item-clause-in_row g t c = λ tell p is under known there can clear. still _ _
 
 pub run-returns-in_ok-write_shared-in-Item-clause-bounded : goal.run-returns-in_ok-write_shared-in-Item-clause-bounded
 run-returns-in_ok-write_shared-in-Item-clause-bounded g t c = λ tell p is under known there can clear. still _ _
 
+pub run-returns-in_ok-write_shared-in-Item-clause-in_row : goal.run-returns-in_ok-write_shared-in-Item-clause-in_row
+run-returns-in_ok-write_shared-in-Item-clause-in_row g t c = λ tell p is under known there can clear. still _ _
+
 pub run-returns-in_ok-write_shared-in-Item-clause-spent : goal.run-returns-in_ok-write_shared-in-Item-clause-spent
 run-returns-in_ok-write_shared-in-Item-clause-spent g t c = λ tell p is under known there can clear. spent_as (ap statement_of c.in-Item.is) tell p (lists_of c.args.sets.now.named.items) _ _ (nothing_spent _)
 
-pub run-returns-in_err-given-in-Union-clause-bounded : goal.run-returns-in_err-given-in-Union-clause-bounded
-run-returns-in_err-given-in-Union-clause-bounded g t c = λ tell p is under known there can clear.
+pub run-returns-in_err-given-in-Union-clause-in_row : goal.run-returns-in_err-given-in-Union-clause-in_row
+run-returns-in_err-given-in-Union-clause-in_row g t c = λ tell p is under known there can clear.
     let env = lists_of c.args.sets.now.named.items in
     let same = ap statement_of c.in-Union.is ∙ union_is c.in-Union.parts c.in-Union.into in
     let parts = subst (λ (ps : List Stmt). CanRunAll (statements_of ps)) (sym c.deref-in-Union-2.ensures.value) (can_run_as same can) in
-    bounded_as same tell p env _ _
+    stops_as same tell p env _ _
     (subst (λ (ps : List Stmt). IsBounded (WorkOfAll tell p (statements_of ps) env) c.args.meter.now.spent c.run_all.new.meter.spent) c.deref-in-Union-2.ensures.value (c.run_all.ensures.bounded tell p is under known there parts clear))
 
-pub run-returns-in_err-refs-in-Union-clause-bounded : goal.run-returns-in_err-refs-in-Union-clause-bounded
-run-returns-in_err-refs-in-Union-clause-bounded g t c = λ tell p is under known there can clear.
+pub run-returns-in_err-refs-in-Union-clause-in_row : goal.run-returns-in_err-refs-in-Union-clause-in_row
+run-returns-in_err-refs-in-Union-clause-in_row g t c = λ tell p is under known there can clear.
     let env = lists_of c.args.sets.now.named.items in
     let same = ap statement_of c.in-Union.is ∙ union_is c.in-Union.parts c.in-Union.into in
     let parts = subst (λ (ps : List Stmt). CanRunAll (statements_of ps)) (sym c.deref-in-Union-2.ensures.value) (can_run_as same can) in
-    bounded_as same tell p env _ _
+    stops_as same tell p env _ _
     (subst (λ (ps : List Stmt). IsBounded (WorkOfAll tell p (statements_of ps) env) c.args.meter.now.spent c.run_all.new.meter.spent) c.deref-in-Union-2.ensures.value (c.run_all.ensures.bounded tell p is under known there parts clear))
 
-pub run-returns-in_err-write-in-Union-clause-bounded : goal.run-returns-in_err-write-in-Union-clause-bounded
-run-returns-in_err-write-in-Union-clause-bounded g t c = λ tell p is under known there can clear.
+pub run-returns-in_err-write-in-Union-clause-in_row : goal.run-returns-in_err-write-in-Union-clause-in_row
+run-returns-in_err-write-in-Union-clause-in_row g t c = λ tell p is under known there can clear.
     let env = lists_of c.args.sets.now.named.items in
     let same = ap statement_of c.in-Union.is ∙ union_is c.in-Union.parts c.in-Union.into in
     let parts = subst (λ (ps : List Stmt). CanRunAll (statements_of ps)) (sym c.deref-in-Union-2.ensures.value) (can_run_as same can) in
-    bounded_as same tell p env _ _
+    stops_as same tell p env _ _
     (subst (λ (ps : List Stmt). IsBounded (WorkOfAll tell p (statements_of ps) env) c.args.meter.now.spent c.run_all.new.meter.spent) c.deref-in-Union-2.ensures.value (c.run_all.ensures.bounded tell p is under known there parts clear))
 
 pub run-returns-in_ok-write-in-Union-clause-bounded : goal.run-returns-in_ok-write-in-Union-clause-bounded
@@ -370,6 +396,14 @@ run-returns-in_ok-write-in-Union-clause-bounded g t c = λ tell p is under known
     bounded_as same tell p env _ _
     (subst (λ (ps : List Stmt). IsBounded (WorkOfAll tell p (statements_of ps) env) c.args.meter.now.spent c.run_all.new.meter.spent) c.deref-in-Union-2.ensures.value (c.run_all.ensures.bounded tell p is under known there parts clear))
 
+pub run-returns-in_ok-write-in-Union-clause-in_row : goal.run-returns-in_ok-write-in-Union-clause-in_row
+run-returns-in_ok-write-in-Union-clause-in_row g t c = λ tell p is under known there can clear.
+    let env = lists_of c.args.sets.now.named.items in
+    let same = ap statement_of c.in-Union.is ∙ union_is c.in-Union.parts c.in-Union.into in
+    let parts = subst (λ (ps : List Stmt). CanRunAll (statements_of ps)) (sym c.deref-in-Union-2.ensures.value) (can_run_as same can) in
+    stops_as same tell p env _ _
+    (subst (λ (ps : List Stmt). IsBounded (WorkOfAll tell p (statements_of ps) env) c.args.meter.now.spent c.run_all.new.meter.spent) c.deref-in-Union-2.ensures.value (c.run_all.ensures.bounded tell p is under known there parts clear))
+
 pub run-returns-in_ok-write-in-Union-clause-spent : goal.run-returns-in_ok-write-in-Union-clause-spent
 run-returns-in_ok-write-in-Union-clause-spent g t c = λ tell p is under known there can clear.
     let env = lists_of c.args.sets.now.named.items in
@@ -378,44 +412,44 @@ run-returns-in_ok-write-in-Union-clause-spent g t c = λ tell p is under known t
     spent_as same tell p env _ _
     (subst (λ (ps : List Stmt). IsSpent (WorkOfAll tell p (statements_of ps) env) c.args.meter.now.spent c.run_all.new.meter.spent) c.deref-in-Union-2.ensures.value (c.in_ok-given-in-Union.ensures.spent tell p is under known there parts clear))
 
-pub run-returns-in_err-run-in-Minus-clause-bounded : goal.run-returns-in_err-run-in-Minus-clause-bounded
-run-returns-in_err-run-in-Minus-clause-bounded g t c = λ tell p is under known there can clear.
+pub run-returns-in_err-run-in-Minus-clause-in_row : goal.run-returns-in_err-run-in-Minus-clause-in_row
+run-returns-in_err-run-in-Minus-clause-in_row g t c = λ tell p is under known there can clear.
     let env = lists_of c.args.sets.now.named.items in
     let left = c.in-Minus.left.value in
     let right = c.in-Minus.right.value in
     let same = ap statement_of c.in-Minus.is in
     let both = can_run_as same can in
     let first = subst (λ (s : Stmt). CanRun (statement_of s)) (sym c.deref-in-Minus.ensures) both.0 in
-    let ran = subst (λ (s : Stmt). IsBounded (WorkOf tell p (statement_of s) env) c.args.meter.now.spent c.run.new.meter.spent) c.deref-in-Minus.ensures (c.run.ensures.bounded tell p is under known there first clear) in
-    bounded_as same tell p env _ _ (row_stops p.objects (statement_of left) env _ _ ran)
+    let ran = subst (λ (s : Stmt). IsBounded (WorkOfLast tell p (statement_of s) env) c.args.meter.now.spent c.run.new.meter.spent) c.deref-in-Minus.ensures (c.run.ensures.in_row tell p is under known there first clear) in
+    stops_as same tell p env _ _ (last_stops tell p (statement_of left) env _ _ ran)
 
-pub run-returns-in_err-first-in-Minus-clause-bounded : goal.run-returns-in_err-first-in-Minus-clause-bounded
-run-returns-in_err-first-in-Minus-clause-bounded g t c = λ tell p is under known there can clear.
+pub run-returns-in_err-first-in-Minus-clause-in_row : goal.run-returns-in_err-first-in-Minus-clause-in_row
+run-returns-in_err-first-in-Minus-clause-in_row g t c = λ tell p is under known there can clear.
     let env = lists_of c.args.sets.now.named.items in
     let left = c.in-Minus.left.value in
     let right = c.in-Minus.right.value in
     let same = ap statement_of c.in-Minus.is in
     let both = can_run_as same can in
     let first = subst (λ (s : Stmt). CanRun (statement_of s)) (sym c.deref-in-Minus.ensures) both.0 in
-    let ran = subst (λ (s : Stmt). IsBounded (WorkOf tell p (statement_of s) env) c.args.meter.now.spent c.run.new.meter.spent) c.deref-in-Minus.ensures (c.run.ensures.bounded tell p is under known there first clear) in
-    bounded_as same tell p env _ _ (row_stops p.objects (statement_of left) env _ _ ran)
+    let ran = subst (λ (s : Stmt). IsBounded (WorkOf tell p (statement_of s) env) c.args.meter.now.spent c.run.new.meter.spent) c.deref-in-Minus.ensures (c.in_ok-run-in-Minus.ensures.bounded tell p is under known there first clear) in
+    stops_as same tell p env _ _ (row_stops p.objects (statement_of left) env _ _ ran)
 
-pub run-returns-in_err-charge_run-in-Minus-clause-bounded : goal.run-returns-in_err-charge_run-in-Minus-clause-bounded
-run-returns-in_err-charge_run-in-Minus-clause-bounded g t c = λ tell p is under known there can clear.
+pub run-returns-in_err-charge_run-in-Minus-clause-in_row : goal.run-returns-in_err-charge_run-in-Minus-clause-in_row
+run-returns-in_err-charge_run-in-Minus-clause-in_row g t c = λ tell p is under known there can clear.
     let env = lists_of c.args.sets.now.named.items in
     let left = c.in-Minus.left.value in
     let right = c.in-Minus.right.value in
     let same = ap statement_of c.in-Minus.is in
     let both = can_run_as same can in
     let first = subst (λ (s : Stmt). CanRun (statement_of s)) (sym c.deref-in-Minus.ensures) both.0 in
-    let ran = subst (λ (s : Stmt). IsBounded (WorkOf tell p (statement_of s) env) c.args.meter.now.spent c.run.new.meter.spent) c.deref-in-Minus.ensures (c.run.ensures.bounded tell p is under known there first clear) in
+    let ran = subst (λ (s : Stmt). IsBounded (WorkOf tell p (statement_of s) env) c.args.meter.now.spent c.run.new.meter.spent) c.deref-in-Minus.ensures (c.in_ok-run-in-Minus.ensures.bounded tell p is under known there first clear) in
     let mid = lists_of c.run.new.sets.named.items in
     let so = found_well (λ x used. used) clear (subst (λ (s : Stmt). RanWell p (statement_of s) env mid (AreAnswers p (g.W.Source.used c.run.new.source) c.run.new.memo.remembered.items) (uses (g.W.Source.holds c.run.new.source) (g.W.Source.used c.args.source.now) (g.W.Source.used c.run.new.source)) (Ok c.in_ok-run-in-Minus.field-0)) c.deref-in-Minus.ensures (c.in_ok-run-in-Minus.ensures.answer p is under known there first)) in
     let given : c.deref-in-Minus-3.result.now ≡ given_by (statement_of left) mid = c.deref-in-Minus-3.ensures ∙ c.in_ok-first-in-Minus.ensures ∙ ap (λ (s : Stmt). given_by (statement_of s) mid) c.deref-in-Minus-2.ensures in
-    bounded_as same tell p env _ _ (row_bounded p.objects (statement_of left) env mid c.deref-in-Minus-3.result.now so.0 given _ _ _ _ c.charge_run.ensures ran (still _ _))
+    stops_as same tell p env _ _ (row_bounded p.objects (statement_of left) env mid c.deref-in-Minus-3.result.now so.0 given _ _ _ _ c.charge_run.ensures ran (still _ _))
 
-pub run-returns-in_err-run-in-Minus-2-clause-bounded : goal.run-returns-in_err-run-in-Minus-2-clause-bounded
-run-returns-in_err-run-in-Minus-2-clause-bounded g t c = λ tell p is under known there can clear.
+pub run-returns-in_err-run-in-Minus-2-clause-in_row : goal.run-returns-in_err-run-in-Minus-2-clause-in_row
+run-returns-in_err-run-in-Minus-2-clause-in_row g t c = λ tell p is under known there can clear.
     let env = lists_of c.args.sets.now.named.items in
     let left = c.in-Minus.left.value in
     let right = c.in-Minus.right.value in
@@ -423,18 +457,18 @@ run-returns-in_err-run-in-Minus-2-clause-bounded g t c = λ tell p is under know
     let both = can_run_as same can in
     let first = subst (λ (s : Stmt). CanRun (statement_of s)) (sym c.deref-in-Minus.ensures) both.0 in
     let early = clear_before (λ x. g.met.W.Source.grows _ _ x c.run-in-Minus.ensures.later) clear in
-    let ran = subst (λ (s : Stmt). IsBounded (WorkOf tell p (statement_of s) env) c.args.meter.now.spent c.run.new.meter.spent) c.deref-in-Minus.ensures (c.run.ensures.bounded tell p is under known there first early) in
+    let ran = subst (λ (s : Stmt). IsBounded (WorkOf tell p (statement_of s) env) c.args.meter.now.spent c.run.new.meter.spent) c.deref-in-Minus.ensures (c.in_ok-run-in-Minus.ensures.bounded tell p is under known there first early) in
     let mid = lists_of c.run.new.sets.named.items in
     let so = found_well (λ x used. used) early (subst (λ (s : Stmt). RanWell p (statement_of s) env mid (AreAnswers p (g.W.Source.used c.run.new.source) c.run.new.memo.remembered.items) (uses (g.W.Source.holds c.run.new.source) (g.W.Source.used c.args.source.now) (g.W.Source.used c.run.new.source)) (Ok c.in_ok-run-in-Minus.field-0)) c.deref-in-Minus.ensures (c.in_ok-run-in-Minus.ensures.answer p is under known there first)) in
     let given : c.deref-in-Minus-3.result.now ≡ given_by (statement_of left) mid = c.deref-in-Minus-3.ensures ∙ c.in_ok-first-in-Minus.ensures ∙ ap (λ (s : Stmt). given_by (statement_of s) mid) c.deref-in-Minus-2.ensures in
     let second = subst (λ (s : Stmt). CanRun (statement_of s)) (sym c.deref-in-Minus-4.ensures) both.1 in
     let there_too = after_there p.objects (statement_of left) env mid so.0 there in
     let under_too = g.met.W.Source.same_under _ _ p c.in_ok-run-in-Minus.ensures.later under in
-    let ran_too = subst (λ (s : Stmt). IsBounded (WorkOf tell p (statement_of s) mid) c.charge_run.new.self.spent c.run-in-Minus.new.meter.spent) c.deref-in-Minus-4.ensures (c.run-in-Minus.ensures.bounded tell p is under_too so.1 there_too second clear) in
-    bounded_as same tell p env _ _ (row_bounded p.objects (statement_of left) env mid c.deref-in-Minus-3.result.now so.0 given _ _ _ _ c.charge_run.ensures ran (row_stops p.objects (statement_of right) mid _ _ ran_too))
+    let ran_too = subst (λ (s : Stmt). IsBounded (WorkOfLast tell p (statement_of s) mid) c.charge_run.new.self.spent c.run-in-Minus.new.meter.spent) c.deref-in-Minus-4.ensures (c.run-in-Minus.ensures.in_row tell p is under_too so.1 there_too second clear) in
+    stops_as same tell p env _ _ (row_bounded p.objects (statement_of left) env mid c.deref-in-Minus-3.result.now so.0 given _ _ _ _ c.charge_run.ensures ran (last_stops tell p (statement_of right) mid _ _ ran_too))
 
-pub run-returns-in_err-charge_run-in-Minus-2-clause-bounded : goal.run-returns-in_err-charge_run-in-Minus-2-clause-bounded
-run-returns-in_err-charge_run-in-Minus-2-clause-bounded g t c = λ tell p is under known there can clear.
+pub run-returns-in_err-charge_run-in-Minus-2-clause-in_row : goal.run-returns-in_err-charge_run-in-Minus-2-clause-in_row
+run-returns-in_err-charge_run-in-Minus-2-clause-in_row g t c = λ tell p is under known there can clear.
     let env = lists_of c.args.sets.now.named.items in
     let left = c.in-Minus.left.value in
     let right = c.in-Minus.right.value in
@@ -442,23 +476,23 @@ run-returns-in_err-charge_run-in-Minus-2-clause-bounded g t c = λ tell p is und
     let both = can_run_as same can in
     let first = subst (λ (s : Stmt). CanRun (statement_of s)) (sym c.deref-in-Minus.ensures) both.0 in
     let early = clear_before (λ x. g.met.W.Source.grows _ _ x c.run-in-Minus.ensures.later) clear in
-    let ran = subst (λ (s : Stmt). IsBounded (WorkOf tell p (statement_of s) env) c.args.meter.now.spent c.run.new.meter.spent) c.deref-in-Minus.ensures (c.run.ensures.bounded tell p is under known there first early) in
+    let ran = subst (λ (s : Stmt). IsBounded (WorkOf tell p (statement_of s) env) c.args.meter.now.spent c.run.new.meter.spent) c.deref-in-Minus.ensures (c.in_ok-run-in-Minus.ensures.bounded tell p is under known there first early) in
     let mid = lists_of c.run.new.sets.named.items in
     let so = found_well (λ x used. used) early (subst (λ (s : Stmt). RanWell p (statement_of s) env mid (AreAnswers p (g.W.Source.used c.run.new.source) c.run.new.memo.remembered.items) (uses (g.W.Source.holds c.run.new.source) (g.W.Source.used c.args.source.now) (g.W.Source.used c.run.new.source)) (Ok c.in_ok-run-in-Minus.field-0)) c.deref-in-Minus.ensures (c.in_ok-run-in-Minus.ensures.answer p is under known there first)) in
     let given : c.deref-in-Minus-3.result.now ≡ given_by (statement_of left) mid = c.deref-in-Minus-3.ensures ∙ c.in_ok-first-in-Minus.ensures ∙ ap (λ (s : Stmt). given_by (statement_of s) mid) c.deref-in-Minus-2.ensures in
     let second = subst (λ (s : Stmt). CanRun (statement_of s)) (sym c.deref-in-Minus-4.ensures) both.1 in
     let there_too = after_there p.objects (statement_of left) env mid so.0 there in
     let under_too = g.met.W.Source.same_under _ _ p c.in_ok-run-in-Minus.ensures.later under in
-    let ran_too = subst (λ (s : Stmt). IsBounded (WorkOf tell p (statement_of s) mid) c.charge_run.new.self.spent c.run-in-Minus.new.meter.spent) c.deref-in-Minus-4.ensures (c.run-in-Minus.ensures.bounded tell p is under_too so.1 there_too second clear) in
+    let ran_too = subst (λ (s : Stmt). IsBounded (WorkOf tell p (statement_of s) mid) c.charge_run.new.self.spent c.run-in-Minus.new.meter.spent) c.deref-in-Minus-4.ensures (c.in_ok-run-in-Minus-2.ensures.bounded tell p is under_too so.1 there_too second clear) in
     let end = lists_of c.run-in-Minus.new.sets.named.items in
     let so_too = found_well (λ x used. used) clear (subst (λ (s : Stmt). RanWell p (statement_of s) mid end (AreAnswers p (g.W.Source.used c.run-in-Minus.new.source) c.run-in-Minus.new.memo.remembered.items) (uses (g.W.Source.holds c.run-in-Minus.new.source) (g.W.Source.used c.run.new.source) (g.W.Source.used c.run-in-Minus.new.source)) (Ok c.in_ok-run-in-Minus-2.field-0)) c.deref-in-Minus-4.ensures
     (c.in_ok-run-in-Minus-2.ensures.answer p is under_too so.1 there_too second)) in
     let given_too : c.written_by-second.result.now ≡ given_by (statement_of right) end = c.written_by-second.ensures ∙ ap (λ (s : Stmt). given_by (statement_of s) end) c.deref-in-Minus-5.ensures in
-    bounded_as same tell p env _ _ (row_bounded p.objects (statement_of left) env mid c.deref-in-Minus-3.result.now so.0 given _ _ _ _ c.charge_run.ensures ran
+    stops_as same tell p env _ _ (row_bounded p.objects (statement_of left) env mid c.deref-in-Minus-3.result.now so.0 given _ _ _ _ c.charge_run.ensures ran
     (row_bounded p.objects (statement_of right) mid end c.written_by-second.result.now so_too.0 given_too _ _ _ _ c.charge_run-in-Minus.ensures ran_too (still _ _)))
 
-pub run-returns-in_err-refs-in-Minus-clause-bounded : goal.run-returns-in_err-refs-in-Minus-clause-bounded
-run-returns-in_err-refs-in-Minus-clause-bounded g t c = λ tell p is under known there can clear.
+pub run-returns-in_err-refs-in-Minus-clause-in_row : goal.run-returns-in_err-refs-in-Minus-clause-in_row
+run-returns-in_err-refs-in-Minus-clause-in_row g t c = λ tell p is under known there can clear.
     let env = lists_of c.args.sets.now.named.items in
     let left = c.in-Minus.left.value in
     let right = c.in-Minus.right.value in
@@ -466,23 +500,23 @@ run-returns-in_err-refs-in-Minus-clause-bounded g t c = λ tell p is under known
     let both = can_run_as same can in
     let first = subst (λ (s : Stmt). CanRun (statement_of s)) (sym c.deref-in-Minus.ensures) both.0 in
     let early = clear_before (λ x. g.met.W.Source.grows _ _ x c.run-in-Minus.ensures.later) clear in
-    let ran = subst (λ (s : Stmt). IsBounded (WorkOf tell p (statement_of s) env) c.args.meter.now.spent c.run.new.meter.spent) c.deref-in-Minus.ensures (c.run.ensures.bounded tell p is under known there first early) in
+    let ran = subst (λ (s : Stmt). IsBounded (WorkOf tell p (statement_of s) env) c.args.meter.now.spent c.run.new.meter.spent) c.deref-in-Minus.ensures (c.in_ok-run-in-Minus.ensures.bounded tell p is under known there first early) in
     let mid = lists_of c.run.new.sets.named.items in
     let so = found_well (λ x used. used) early (subst (λ (s : Stmt). RanWell p (statement_of s) env mid (AreAnswers p (g.W.Source.used c.run.new.source) c.run.new.memo.remembered.items) (uses (g.W.Source.holds c.run.new.source) (g.W.Source.used c.args.source.now) (g.W.Source.used c.run.new.source)) (Ok c.in_ok-run-in-Minus.field-0)) c.deref-in-Minus.ensures (c.in_ok-run-in-Minus.ensures.answer p is under known there first)) in
     let given : c.deref-in-Minus-3.result.now ≡ given_by (statement_of left) mid = c.deref-in-Minus-3.ensures ∙ c.in_ok-first-in-Minus.ensures ∙ ap (λ (s : Stmt). given_by (statement_of s) mid) c.deref-in-Minus-2.ensures in
     let second = subst (λ (s : Stmt). CanRun (statement_of s)) (sym c.deref-in-Minus-4.ensures) both.1 in
     let there_too = after_there p.objects (statement_of left) env mid so.0 there in
     let under_too = g.met.W.Source.same_under _ _ p c.in_ok-run-in-Minus.ensures.later under in
-    let ran_too = subst (λ (s : Stmt). IsBounded (WorkOf tell p (statement_of s) mid) c.charge_run.new.self.spent c.run-in-Minus.new.meter.spent) c.deref-in-Minus-4.ensures (c.run-in-Minus.ensures.bounded tell p is under_too so.1 there_too second clear) in
+    let ran_too = subst (λ (s : Stmt). IsBounded (WorkOf tell p (statement_of s) mid) c.charge_run.new.self.spent c.run-in-Minus.new.meter.spent) c.deref-in-Minus-4.ensures (c.in_ok-run-in-Minus-2.ensures.bounded tell p is under_too so.1 there_too second clear) in
     let end = lists_of c.run-in-Minus.new.sets.named.items in
     let so_too = found_well (λ x used. used) clear (subst (λ (s : Stmt). RanWell p (statement_of s) mid end (AreAnswers p (g.W.Source.used c.run-in-Minus.new.source) c.run-in-Minus.new.memo.remembered.items) (uses (g.W.Source.holds c.run-in-Minus.new.source) (g.W.Source.used c.run.new.source) (g.W.Source.used c.run-in-Minus.new.source)) (Ok c.in_ok-run-in-Minus-2.field-0)) c.deref-in-Minus-4.ensures
     (c.in_ok-run-in-Minus-2.ensures.answer p is under_too so.1 there_too second)) in
     let given_too : c.written_by-second.result.now ≡ given_by (statement_of right) end = c.written_by-second.ensures ∙ ap (λ (s : Stmt). given_by (statement_of s) end) c.deref-in-Minus-5.ensures in
-    bounded_as same tell p env _ _ (row_bounded p.objects (statement_of left) env mid c.deref-in-Minus-3.result.now so.0 given _ _ _ _ c.charge_run.ensures ran
+    stops_as same tell p env _ _ (row_bounded p.objects (statement_of left) env mid c.deref-in-Minus-3.result.now so.0 given _ _ _ _ c.charge_run.ensures ran
     (row_bounded p.objects (statement_of right) mid end c.written_by-second.result.now so_too.0 given_too _ _ _ _ c.charge_run-in-Minus.ensures ran_too (still _ _)))
 
-pub run-returns-in_err-write-in-Minus-clause-bounded : goal.run-returns-in_err-write-in-Minus-clause-bounded
-run-returns-in_err-write-in-Minus-clause-bounded g t c = λ tell p is under known there can clear.
+pub run-returns-in_err-write-in-Minus-clause-in_row : goal.run-returns-in_err-write-in-Minus-clause-in_row
+run-returns-in_err-write-in-Minus-clause-in_row g t c = λ tell p is under known there can clear.
     let env = lists_of c.args.sets.now.named.items in
     let left = c.in-Minus.left.value in
     let right = c.in-Minus.right.value in
@@ -490,19 +524,19 @@ run-returns-in_err-write-in-Minus-clause-bounded g t c = λ tell p is under know
     let both = can_run_as same can in
     let first = subst (λ (s : Stmt). CanRun (statement_of s)) (sym c.deref-in-Minus.ensures) both.0 in
     let early = clear_before (λ x. g.met.W.Source.grows _ _ x c.run-in-Minus.ensures.later) clear in
-    let ran = subst (λ (s : Stmt). IsBounded (WorkOf tell p (statement_of s) env) c.args.meter.now.spent c.run.new.meter.spent) c.deref-in-Minus.ensures (c.run.ensures.bounded tell p is under known there first early) in
+    let ran = subst (λ (s : Stmt). IsBounded (WorkOf tell p (statement_of s) env) c.args.meter.now.spent c.run.new.meter.spent) c.deref-in-Minus.ensures (c.in_ok-run-in-Minus.ensures.bounded tell p is under known there first early) in
     let mid = lists_of c.run.new.sets.named.items in
     let so = found_well (λ x used. used) early (subst (λ (s : Stmt). RanWell p (statement_of s) env mid (AreAnswers p (g.W.Source.used c.run.new.source) c.run.new.memo.remembered.items) (uses (g.W.Source.holds c.run.new.source) (g.W.Source.used c.args.source.now) (g.W.Source.used c.run.new.source)) (Ok c.in_ok-run-in-Minus.field-0)) c.deref-in-Minus.ensures (c.in_ok-run-in-Minus.ensures.answer p is under known there first)) in
     let given : c.deref-in-Minus-3.result.now ≡ given_by (statement_of left) mid = c.deref-in-Minus-3.ensures ∙ c.in_ok-first-in-Minus.ensures ∙ ap (λ (s : Stmt). given_by (statement_of s) mid) c.deref-in-Minus-2.ensures in
     let second = subst (λ (s : Stmt). CanRun (statement_of s)) (sym c.deref-in-Minus-4.ensures) both.1 in
     let there_too = after_there p.objects (statement_of left) env mid so.0 there in
     let under_too = g.met.W.Source.same_under _ _ p c.in_ok-run-in-Minus.ensures.later under in
-    let ran_too = subst (λ (s : Stmt). IsBounded (WorkOf tell p (statement_of s) mid) c.charge_run.new.self.spent c.run-in-Minus.new.meter.spent) c.deref-in-Minus-4.ensures (c.run-in-Minus.ensures.bounded tell p is under_too so.1 there_too second clear) in
+    let ran_too = subst (λ (s : Stmt). IsBounded (WorkOf tell p (statement_of s) mid) c.charge_run.new.self.spent c.run-in-Minus.new.meter.spent) c.deref-in-Minus-4.ensures (c.in_ok-run-in-Minus-2.ensures.bounded tell p is under_too so.1 there_too second clear) in
     let end = lists_of c.run-in-Minus.new.sets.named.items in
     let so_too = found_well (λ x used. used) clear (subst (λ (s : Stmt). RanWell p (statement_of s) mid end (AreAnswers p (g.W.Source.used c.run-in-Minus.new.source) c.run-in-Minus.new.memo.remembered.items) (uses (g.W.Source.holds c.run-in-Minus.new.source) (g.W.Source.used c.run.new.source) (g.W.Source.used c.run-in-Minus.new.source)) (Ok c.in_ok-run-in-Minus-2.field-0)) c.deref-in-Minus-4.ensures
     (c.in_ok-run-in-Minus-2.ensures.answer p is under_too so.1 there_too second)) in
     let given_too : c.written_by-second.result.now ≡ given_by (statement_of right) end = c.written_by-second.ensures ∙ ap (λ (s : Stmt). given_by (statement_of s) end) c.deref-in-Minus-5.ensures in
-    bounded_as same tell p env _ _ (row_bounded p.objects (statement_of left) env mid c.deref-in-Minus-3.result.now so.0 given _ _ _ _ c.charge_run.ensures ran
+    stops_as same tell p env _ _ (row_bounded p.objects (statement_of left) env mid c.deref-in-Minus-3.result.now so.0 given _ _ _ _ c.charge_run.ensures ran
     (row_bounded p.objects (statement_of right) mid end c.written_by-second.result.now so_too.0 given_too _ _ _ _ c.charge_run-in-Minus.ensures ran_too (still _ _)))
 
 pub run-returns-in_ok-write-in-Minus-clause-bounded : goal.run-returns-in_ok-write-in-Minus-clause-bounded
@@ -514,19 +548,43 @@ run-returns-in_ok-write-in-Minus-clause-bounded g t c = λ tell p is under known
     let both = can_run_as same can in
     let first = subst (λ (s : Stmt). CanRun (statement_of s)) (sym c.deref-in-Minus.ensures) both.0 in
     let early = clear_before (λ x. g.met.W.Source.grows _ _ x c.run-in-Minus.ensures.later) clear in
-    let ran = subst (λ (s : Stmt). IsBounded (WorkOf tell p (statement_of s) env) c.args.meter.now.spent c.run.new.meter.spent) c.deref-in-Minus.ensures (c.run.ensures.bounded tell p is under known there first early) in
+    let ran = subst (λ (s : Stmt). IsBounded (WorkOf tell p (statement_of s) env) c.args.meter.now.spent c.run.new.meter.spent) c.deref-in-Minus.ensures (c.in_ok-run-in-Minus.ensures.bounded tell p is under known there first early) in
     let mid = lists_of c.run.new.sets.named.items in
     let so = found_well (λ x used. used) early (subst (λ (s : Stmt). RanWell p (statement_of s) env mid (AreAnswers p (g.W.Source.used c.run.new.source) c.run.new.memo.remembered.items) (uses (g.W.Source.holds c.run.new.source) (g.W.Source.used c.args.source.now) (g.W.Source.used c.run.new.source)) (Ok c.in_ok-run-in-Minus.field-0)) c.deref-in-Minus.ensures (c.in_ok-run-in-Minus.ensures.answer p is under known there first)) in
     let given : c.deref-in-Minus-3.result.now ≡ given_by (statement_of left) mid = c.deref-in-Minus-3.ensures ∙ c.in_ok-first-in-Minus.ensures ∙ ap (λ (s : Stmt). given_by (statement_of s) mid) c.deref-in-Minus-2.ensures in
     let second = subst (λ (s : Stmt). CanRun (statement_of s)) (sym c.deref-in-Minus-4.ensures) both.1 in
     let there_too = after_there p.objects (statement_of left) env mid so.0 there in
     let under_too = g.met.W.Source.same_under _ _ p c.in_ok-run-in-Minus.ensures.later under in
-    let ran_too = subst (λ (s : Stmt). IsBounded (WorkOf tell p (statement_of s) mid) c.charge_run.new.self.spent c.run-in-Minus.new.meter.spent) c.deref-in-Minus-4.ensures (c.run-in-Minus.ensures.bounded tell p is under_too so.1 there_too second clear) in
+    let ran_too = subst (λ (s : Stmt). IsBounded (WorkOf tell p (statement_of s) mid) c.charge_run.new.self.spent c.run-in-Minus.new.meter.spent) c.deref-in-Minus-4.ensures (c.in_ok-run-in-Minus-2.ensures.bounded tell p is under_too so.1 there_too second clear) in
     let end = lists_of c.run-in-Minus.new.sets.named.items in
     let so_too = found_well (λ x used. used) clear (subst (λ (s : Stmt). RanWell p (statement_of s) mid end (AreAnswers p (g.W.Source.used c.run-in-Minus.new.source) c.run-in-Minus.new.memo.remembered.items) (uses (g.W.Source.holds c.run-in-Minus.new.source) (g.W.Source.used c.run.new.source) (g.W.Source.used c.run-in-Minus.new.source)) (Ok c.in_ok-run-in-Minus-2.field-0)) c.deref-in-Minus-4.ensures
     (c.in_ok-run-in-Minus-2.ensures.answer p is under_too so.1 there_too second)) in
     let given_too : c.written_by-second.result.now ≡ given_by (statement_of right) end = c.written_by-second.ensures ∙ ap (λ (s : Stmt). given_by (statement_of s) end) c.deref-in-Minus-5.ensures in
     bounded_as same tell p env _ _ (row_bounded p.objects (statement_of left) env mid c.deref-in-Minus-3.result.now so.0 given _ _ _ _ c.charge_run.ensures ran
+    (row_bounded p.objects (statement_of right) mid end c.written_by-second.result.now so_too.0 given_too _ _ _ _ c.charge_run-in-Minus.ensures ran_too (still _ _)))
+
+pub run-returns-in_ok-write-in-Minus-clause-in_row : goal.run-returns-in_ok-write-in-Minus-clause-in_row
+run-returns-in_ok-write-in-Minus-clause-in_row g t c = λ tell p is under known there can clear.
+    let env = lists_of c.args.sets.now.named.items in
+    let left = c.in-Minus.left.value in
+    let right = c.in-Minus.right.value in
+    let same = ap statement_of c.in-Minus.is in
+    let both = can_run_as same can in
+    let first = subst (λ (s : Stmt). CanRun (statement_of s)) (sym c.deref-in-Minus.ensures) both.0 in
+    let early = clear_before (λ x. g.met.W.Source.grows _ _ x c.run-in-Minus.ensures.later) clear in
+    let ran = subst (λ (s : Stmt). IsBounded (WorkOf tell p (statement_of s) env) c.args.meter.now.spent c.run.new.meter.spent) c.deref-in-Minus.ensures (c.in_ok-run-in-Minus.ensures.bounded tell p is under known there first early) in
+    let mid = lists_of c.run.new.sets.named.items in
+    let so = found_well (λ x used. used) early (subst (λ (s : Stmt). RanWell p (statement_of s) env mid (AreAnswers p (g.W.Source.used c.run.new.source) c.run.new.memo.remembered.items) (uses (g.W.Source.holds c.run.new.source) (g.W.Source.used c.args.source.now) (g.W.Source.used c.run.new.source)) (Ok c.in_ok-run-in-Minus.field-0)) c.deref-in-Minus.ensures (c.in_ok-run-in-Minus.ensures.answer p is under known there first)) in
+    let given : c.deref-in-Minus-3.result.now ≡ given_by (statement_of left) mid = c.deref-in-Minus-3.ensures ∙ c.in_ok-first-in-Minus.ensures ∙ ap (λ (s : Stmt). given_by (statement_of s) mid) c.deref-in-Minus-2.ensures in
+    let second = subst (λ (s : Stmt). CanRun (statement_of s)) (sym c.deref-in-Minus-4.ensures) both.1 in
+    let there_too = after_there p.objects (statement_of left) env mid so.0 there in
+    let under_too = g.met.W.Source.same_under _ _ p c.in_ok-run-in-Minus.ensures.later under in
+    let ran_too = subst (λ (s : Stmt). IsBounded (WorkOf tell p (statement_of s) mid) c.charge_run.new.self.spent c.run-in-Minus.new.meter.spent) c.deref-in-Minus-4.ensures (c.in_ok-run-in-Minus-2.ensures.bounded tell p is under_too so.1 there_too second clear) in
+    let end = lists_of c.run-in-Minus.new.sets.named.items in
+    let so_too = found_well (λ x used. used) clear (subst (λ (s : Stmt). RanWell p (statement_of s) mid end (AreAnswers p (g.W.Source.used c.run-in-Minus.new.source) c.run-in-Minus.new.memo.remembered.items) (uses (g.W.Source.holds c.run-in-Minus.new.source) (g.W.Source.used c.run.new.source) (g.W.Source.used c.run-in-Minus.new.source)) (Ok c.in_ok-run-in-Minus-2.field-0)) c.deref-in-Minus-4.ensures
+    (c.in_ok-run-in-Minus-2.ensures.answer p is under_too so.1 there_too second)) in
+    let given_too : c.written_by-second.result.now ≡ given_by (statement_of right) end = c.written_by-second.ensures ∙ ap (λ (s : Stmt). given_by (statement_of s) end) c.deref-in-Minus-5.ensures in
+    stops_as same tell p env _ _ (row_bounded p.objects (statement_of left) env mid c.deref-in-Minus-3.result.now so.0 given _ _ _ _ c.charge_run.ensures ran
     (row_bounded p.objects (statement_of right) mid end c.written_by-second.result.now so_too.0 given_too _ _ _ _ c.charge_run-in-Minus.ensures ran_too (still _ _)))
 
 pub run-returns-in_ok-write-in-Minus-clause-spent : goal.run-returns-in_ok-write-in-Minus-clause-spent
@@ -556,6 +614,9 @@ run-returns-in_ok-write-in-Minus-clause-spent g t c = λ tell p is under known t
 pub run-returns-in-Print-clause-bounded : goal.run-returns-in-Print-clause-bounded
 run-returns-in-Print-clause-bounded g t c = λ tell p is under known there can clear. absurd (can_run_as (ap statement_of c.in-Print.is) can)
 
+pub run-returns-in-Print-clause-in_row : goal.run-returns-in-Print-clause-in_row
+run-returns-in-Print-clause-in_row g t c = λ tell p is under known there can clear. absurd (can_run_as (ap statement_of c.in-Print.is) can)
+
 pub run-returns-in-Print-clause-spent : goal.run-returns-in-Print-clause-spent
 run-returns-in-Print-clause-spent g t c = λ tell p is under known there can clear. absurd (can_run_as (ap statement_of c.in-Print.is) can)
 
@@ -572,7 +633,7 @@ run_all-returns-in_err-run-clause-bounded g t c = λ tell p is under known there
     let there_now = (after_all_there p.objects (statements_of (take k parts)) env mid c.loop-part.given.items so.0 there).0 in
     let under_now = g.met.W.Source.same_under _ _ p c.loop-part.invariant.later under in
     let can_now = one_lawful parts k part c.loop-part-test.true c.part-item.is can in
-    let first = c.run.ensures.bounded tell p is under_now so.1 there_now can_now clear in
+    let first = c.run.ensures.in_row tell p is under_now so.1 there_now can_now clear in
     going_stops tell p (statements_of parts) env (statement_of part) (statements_of (drop (k + 1) parts)) mid _ _ _ going first
 
 pub run_all-returns-in_err-charge_run-clause-bounded : goal.run_all-returns-in_err-charge_run-clause-bounded
@@ -588,7 +649,7 @@ run_all-returns-in_err-charge_run-clause-bounded g t c = λ tell p is under know
     let there_now = (after_all_there p.objects (statements_of (take k parts)) env mid c.loop-part.given.items so.0 there).0 in
     let under_now = g.met.W.Source.same_under _ _ p c.loop-part.invariant.later under in
     let can_now = one_lawful parts k part c.loop-part-test.true c.part-item.is can in
-    let first = c.run.ensures.bounded tell p is under_now so.1 there_now can_now clear in
+    let first = c.in_ok-run.ensures.bounded tell p is under_now so.1 there_now can_now clear in
     let after = found_well (λ x used. used) clear (c.in_ok-run.ensures.answer p is under_now so.1 there_now can_now) in
     let next = going_next tell p (statements_of parts) env (statement_of part) (statements_of (drop (k + 1) parts)) mid _ _ _ going (lists_of c.run.new.sets.named.items) c.written_by-written.result.now _ after.0 c.written_by-written.ensures c.charge_run.ensures first (c.in_ok-run.ensures.spent tell p is under_now so.1 there_now can_now clear) in
     going_bounded tell p (statements_of parts) env (statements_of (drop (k + 1) parts)) (lists_of c.run.new.sets.named.items) _ _ next
@@ -606,7 +667,7 @@ run_all-returns-in_err-extend_from_slice-clause-bounded g t c = λ tell p is und
     let there_now = (after_all_there p.objects (statements_of (take k parts)) env mid c.loop-part.given.items so.0 there).0 in
     let under_now = g.met.W.Source.same_under _ _ p c.loop-part.invariant.later under in
     let can_now = one_lawful parts k part c.loop-part-test.true c.part-item.is can in
-    let first = c.run.ensures.bounded tell p is under_now so.1 there_now can_now clear in
+    let first = c.in_ok-run.ensures.bounded tell p is under_now so.1 there_now can_now clear in
     let after = found_well (λ x used. used) clear (c.in_ok-run.ensures.answer p is under_now so.1 there_now can_now) in
     let next = going_next tell p (statements_of parts) env (statement_of part) (statements_of (drop (k + 1) parts)) mid _ _ _ going (lists_of c.run.new.sets.named.items) c.written_by-written.result.now _ after.0 c.written_by-written.ensures c.charge_run.ensures first (c.in_ok-run.ensures.spent tell p is under_now so.1 there_now can_now clear) in
     going_bounded tell p (statements_of parts) env (statements_of (drop (k + 1) parts)) (lists_of c.run.new.sets.named.items) _ _ next
