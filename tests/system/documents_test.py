@@ -96,8 +96,10 @@ def check_crates(tally):
     tally.check("trusted crates", named == used, "missing:", used - named, "not used:", named - used)
     proofs, map_of_crates = text_of("PROOFS.md"), text_of("ARCHITECTURE.md")
     # (a crate of tests is named by the crate that it tests, or by itself)
-    for crate in [name for name in listed if not name.endswith("_tests") and name != "test_devices"]:
+    for crate in [name for name in listed if not name.endswith(("_tests", "_devices"))]:
         tally.check(f"PROOFS.md names {crate}", re.search(rf"\b{crate}\b", proofs) is not None)
+        tally.check(f"ARCHITECTURE.md names {crate}", f"`{crate}`" in map_of_crates)
+    for crate in [name for name in listed if name.endswith("_devices")]:
         tally.check(f"ARCHITECTURE.md names {crate}", f"`{crate}`" in map_of_crates)
     for crate in [name for name in listed if name.endswith("_tests")]:
         known = crate.removesuffix("_tests") in listed or f"`{crate}`" in map_of_crates
