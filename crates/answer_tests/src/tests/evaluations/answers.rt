@@ -20,7 +20,7 @@ fn check_rows(rt: &(impl Abort + AllocGlobal), set: &str, rows: &[Row]) -> Resul
         let snapshot = snapshot_of(rt.alloc(), set, edition)?;
         for (text, wanted, nodes) in rows {
             let query = parse(rt.alloc(), text.as_bytes())?;
-            let used = check_answer(rt, &query, &snapshot, wanted)?;
+            let used = check_answer(rt, text, &query, &snapshot, wanted)?;
             assert_eq!(rt; Some(&used), nodes.get(place), "{text}");
         }
     }
@@ -30,6 +30,7 @@ fn check_rows(rt: &(impl Abort + AllocGlobal), set: &str, rows: &[Row]) -> Resul
 /// Whether this is the answer to a query. Gives how many nodes it uses.
 fn check_answer(
     rt: &(impl Abort + AllocGlobal),
+    text: &str,
     query: &Query<'_>,
     snapshot: &Snapshot,
     wanted: &str,
@@ -37,7 +38,7 @@ fn check_answer(
     let mut shelf = Recorder::new(rt.alloc(), snapshot.stock());
     let mut answer = Vec::new(rt.alloc());
     evaluate(rt.alloc(), query, snapshot.root(), &mut shelf, &mut answer)?;
-    assert_eq!(rt; answer.as_slice(), wanted.as_bytes());
+    assert_eq!(rt; answer.as_slice(), wanted.as_bytes(), "{text}");
     Ok(shelf.parts()?.len())
 }
 

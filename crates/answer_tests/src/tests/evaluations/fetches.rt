@@ -42,7 +42,7 @@ fn check_rows(rt: &(impl Abort + AllocGlobal), set: &str, rows: &[Row]) -> Resul
     let snapshot = snapshot_of(alloc, set, Edition::One)?;
     for (text, ranges, fetched) in rows {
         let query = parse(alloc, text.as_bytes())?;
-        check_counts(rt, &query, &snapshot, *ranges, *fetched)?;
+        check_counts(rt, text, &query, &snapshot, *ranges, *fetched)?;
     }
     Ok(())
 }
@@ -50,6 +50,7 @@ fn check_rows(rt: &(impl Abort + AllocGlobal), set: &str, rows: &[Row]) -> Resul
 /// Whether a query walks so often, and fetches so many nodes besides the manifest.
 fn check_counts(
     rt: &(impl Abort + AllocGlobal),
+    text: &str,
     query: &Query<'_>,
     snapshot: &Snapshot,
     ranges: u64,
@@ -66,8 +67,8 @@ fn check_counts(
         fetched,
         work: report.work,
     };
-    assert_eq!(rt; report, wanted);
+    assert_eq!(rt; report, wanted, "{text}");
     // The shelf gives the manifest too.
-    assert_eq!(rt; Some(shelf.fetches), fetched.checked_add(1));
+    assert_eq!(rt; Some(shelf.fetches), fetched.checked_add(1), "{text}");
     Ok(())
 }
