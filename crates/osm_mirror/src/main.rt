@@ -1,34 +1,18 @@
 //! The program `osm_mirror`: an Overpass query server whose answers can be checked.
 //!
-//! Its commands are those of `osm_commands`. What stands here fetches the words, lends the command that they ask for its
-//! files and its socket, tells of a fault and ends with the status.
+//! Its commands are those of `osm_commands`. What stands here fetches the words, and starts the command that they ask for,
+//! which gets its files and sockets in `file_jobs`, `pack_jobs`, `serve_job` and `mirror_jobs`.
 #![tactic(auto)]
 
-mod change_folder;
-mod changing;
-mod checking;
-mod fetching;
-mod pack_serving;
-mod packing;
-mod proving;
-mod querying;
-mod relaying;
-mod root_file;
-mod serving;
-
-use crate::changing::change_file;
-use crate::checking::start_check;
-use crate::fetching::start_fetch;
-use crate::packing::start_pack;
-use crate::proving::start_prove;
-use crate::querying::start_query;
-use crate::relaying::start_relay;
-use crate::serving::start_serve;
 use command_line::{Job, WordsFault, read_words};
+use file_jobs::{change_file, start_check, start_prove};
+use mirror_jobs::{start_fetch, start_relay};
 use osm_codes::explain;
 use osm_commands::{CommandFault, Status, ask, publish};
 use osm_forms::Form;
 use osm_keys::Edition;
+use pack_jobs::{start_pack, start_query};
+use serve_job::start_serve;
 use std::env;
 use std::io::{ErrorKind, IsTerminal, Write};
 use std::process::ExitCode;

@@ -1,6 +1,6 @@
 //! The command `prove`.
 
-ghost use Rattle.osm_mirror.specs.internal.Jobs.{IsProve};
+ghost use Rattle.file_jobs.specs.Jobs.{IsProve};
 
 use command_line::Job;
 use osm_commands::{CommandFault, Status, prove};
@@ -12,7 +12,7 @@ use system_files::{
 };
 
 /// Starts `prove`, as its job says.
-pub(crate) fn start_prove(rt: &HostRuntime, job: Job) -> Status
+pub fn start_prove(rt: &HostRuntime, job: Job) -> Status
     requires { IsProve job }
 {
     let Job::Prove {

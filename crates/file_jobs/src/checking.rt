@@ -1,6 +1,6 @@
 //! The command `check`.
 
-ghost use Rattle.osm_mirror.specs.internal.Jobs.{IsCheck};
+ghost use Rattle.file_jobs.specs.Jobs.{IsCheck};
 
 use command_line::Job;
 use osm_commands::{Status, check};
@@ -8,7 +8,7 @@ use system_files::{Subject, quiet_file, report, trouble_of};
 use tree_node::Digest;
 
 /// Starts `check`, as its job says.
-pub(crate) fn start_check(rt: &HostRuntime, job: Job) -> Status
+pub fn start_check(rt: &HostRuntime, job: Job) -> Status
     requires { IsCheck job }
 {
     let Job::Check {

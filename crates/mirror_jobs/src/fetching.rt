@@ -1,6 +1,6 @@
 //! The command `fetch`.
 
-ghost use Rattle.osm_mirror.specs.internal.Jobs.{IsFetch};
+ghost use Rattle.mirror_jobs.specs.Jobs.{IsFetch};
 
 use command_line::Job;
 use mirror_answer::MirrorFault;
@@ -20,7 +20,7 @@ const SIZE_LIMIT: u64 = 1_073_741_824;
 const PREFIX_SIZE: u64 = 40;
 
 /// Starts `fetch`, as its job says.
-pub(crate) fn start_fetch(rt: &HostRuntime, job: Job) -> Status
+pub fn start_fetch(rt: &HostRuntime, job: Job) -> Status
     requires { IsFetch job }
 {
     let Job::Fetch {

@@ -1,6 +1,6 @@
 //! The command `query`.
 
-ghost use Rattle.osm_mirror.specs.internal.Jobs.{IsQuery};
+ghost use Rattle.pack_jobs.specs.Jobs.{IsQuery};
 
 use command_line::Job;
 use http_ranges::{Address, HttpFile, NotGiven, Target, read_target};
@@ -30,7 +30,7 @@ const MALFORMED: &str =
     "it isn't of the form http://HOST[:PORT]/PATH, in visible ASCII characters, without a user's name and without a fragment";
 
 /// Starts `query`, as its job says.
-pub(crate) fn start_query(rt: &HostRuntime, job: Job) -> Status
+pub fn start_query(rt: &HostRuntime, job: Job) -> Status
     requires { IsQuery job }
 {
     let Job::Query {
@@ -153,7 +153,7 @@ fn refuse_place(rt: &HostRuntime, place: &str, why: &str) -> Status {
 }
 
 /// How the program ends with this fault. It is told in one line, and then in words where somebody looks.
-pub(crate) fn tell(
+fn tell(
     rt: &HostRuntime,
     fault: NotAnswered,
     place: &str,

@@ -7,12 +7,7 @@ use system_files::{
 };
 
 /// Ends a file of changes with the root that they give, and tells that root. The file may not be that of the set.
-pub(crate) fn change_file(
-    rt: &HostRuntime,
-    file: &str,
-    sequence: u64,
-    change_path: &str,
-) -> Status {
+pub fn change_file(rt: &HostRuntime, file: &str, sequence: u64, change_path: &str) -> Status {
     if are_one_file(rt, change_path, file) {
         return refuse_one_file(rt, change_path, file);
     }

@@ -1,6 +1,6 @@
 //! The command `relay`.
 
-ghost use Rattle.osm_mirror.specs.internal.Jobs.{IsRelay};
+ghost use Rattle.mirror_jobs.specs.Jobs.{IsRelay};
 
 use crate::root_file::RootFile;
 use command_line::Job;
@@ -14,7 +14,7 @@ use system_files::{NOTHING, ServerErrors, port_refused, report};
 use tree_node::Digest;
 
 /// Starts `relay`, as its job says.
-pub(crate) fn start_relay(rt: &HostRuntime, job: Job) -> Status
+pub fn start_relay(rt: &HostRuntime, job: Job) -> Status
     requires { IsRelay job }
 {
     let Job::Relay {

@@ -1,6 +1,5 @@
 //! The command `serve` over a pack.
 
-use crate::querying::tell;
 use crate::serving::{listen, report_served, serve_over};
 use node_pack::PackFault;
 use osm_commands::{Status, pack_listening_line};
@@ -33,8 +32,15 @@ pub(crate) fn serve_if_pack(
             None => serve_pack(rt, mirror, port, connections, max_work),
         }),
         Err(PackFault::NotAPack | PackFault::Device) => None,
-        Err(fault) => Some(tell(rt, NotAnswered::Pack(fault), file, "", error.get())),
+        Err(fault) => Some(refuse_pack(rt, NotAnswered::Pack(fault))),
     }
+}
+
+/// How the program ends where a file begins as a pack, and none can be read from it.
+fn refuse_pack(rt: &HostRuntime, fault: NotAnswered) -> Status {
+    // Where standard error takes nothing, the status still tells.
+    let _ = writeln!(rt.stderr(), "{fault}");
+    fault.status()
 }
 
 /// Serves a pack that was opened on this port.

@@ -1,6 +1,6 @@
 //! The command `pack`.
 
-ghost use Rattle.osm_mirror.specs.internal.Jobs.{IsPack};
+ghost use Rattle.pack_jobs.specs.Jobs.{IsPack};
 
 use command_line::Job;
 use osm_commands::{CommandFault, Status};
@@ -15,7 +15,7 @@ use system_files::{
 };
 
 /// Starts `pack`, as its job says.
-pub(crate) fn start_pack(rt: &HostRuntime, job: Job) -> Status
+pub fn start_pack(rt: &HostRuntime, job: Job) -> Status
     requires { IsPack job }
 {
     let Job::Pack {

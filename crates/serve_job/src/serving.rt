@@ -1,8 +1,8 @@
 //! The command `serve`.
 
 ghost use Rattle.std.specs.Prelude.{◌≡◌};
-ghost use Rattle.osm_mirror.specs.internal.Faults.{fault_of_traffic};
-ghost use Rattle.osm_mirror.specs.internal.Jobs.{IsServe};
+ghost use Rattle.serve_job.specs.internal.Faults.{fault_of_traffic};
+ghost use Rattle.serve_job.specs.Jobs.{IsServe};
 
 use crate::change_folder::ChangeFolder;
 use crate::pack_serving::serve_if_pack;
@@ -29,7 +29,7 @@ use system_files::{
 const LOOK_MILLISECONDS: u64 = 250;
 
 /// Starts `serve`, as its job says.
-pub(crate) fn start_serve(rt: &HostRuntime, job: Job) -> Status
+pub fn start_serve(rt: &HostRuntime, job: Job) -> Status
     requires { IsServe job }
 {
     let Job::Serve {

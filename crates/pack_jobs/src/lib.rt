@@ -1,0 +1,11 @@
+//! Jobs over packs: `pack` and `query`.
+//!
+//! Each function lends a command of the layers below the files and sockets that its words name, tells of a fault on standard
+//! error, and gives the status with which the program ends.
+#![tactic(auto)]
+
+mod packing;
+mod querying;
+
+pub use packing::start_pack;
+pub use querying::start_query;
