@@ -47,6 +47,7 @@ MODULES = {
     "osm_check": ("answer_tests", "verdicts"),
     "http_messages": ("answer_tests", "connections"),
     "osm_gate": ("answer_tests", "connections"),
+    "osm_changes": ("osm_commands_tests", "announcing"),
     "mirror_answer": ("osm_fetch_tests", "replies"),
 }
 
@@ -113,7 +114,8 @@ def check_crate(tally, crate):
     binary = binary_of(crate)
     if "#[test]" in sources(crate, of_tests=True):
         tally.check(f"{crate.name}: its tests were built", binary.exists())
-    if crate.name not in TESTED_IN_THE_PROGRAM and "alloc: Global" in sources(crate, of_tests=False):
+    is_tested_here = crate.name not in TESTED_IN_THE_PROGRAM and not crate.name.endswith("_devices")
+    if is_tested_here and "alloc: Global" in sources(crate, of_tests=False):
         holder, front = tests_of(crate)
         names = memory_tests(binary_of(holder)) if binary_of(holder).exists() else []
         met = [name for name in names if name.startswith(front)]

@@ -1,6 +1,7 @@
 //! The command `changes`.
 
-use osm_commands::{Status, changes};
+use osm_changes::changes;
+use osm_commands::Status;
 use system_files::{
     Building, CleanOutput, OutputFile, Subject, Trouble, are_one_file, quiet_file, refuse_one_file,
     report, trouble_of, watched_file,

@@ -1,12 +1,9 @@
 pub mod AskLemmas
 pub mod BegunLemmas
 pub mod BudgetLemmas
-pub mod ChangingLemmas
 pub mod DocumentLemmas
 pub mod FileLemmas
 pub mod FrontLemmas
-pub mod HeldLemmas
 pub mod QueryLemmas
-pub mod RootLineLemmas
 pub mod TreeLemmas
 pub mod WholeFileLemmas

@@ -1,4 +1,3 @@
-pub mod AnnouncedChanges
 pub mod Ask
 pub mod Budgets
 pub mod Faults

@@ -1,12 +1,11 @@
 //! The commands of the program, as functions over readers and writers that they are lent.
 //!
-//! [`ask`], [`publish`], [`changes`], [`prove`] and [`check`]; for the command `serve`, the snapshot of a file and the
+//! [`ask`], [`publish`], [`prove`] and [`check`]; for the command `serve`, the snapshot of a file and the
 //! [`listening_line`] with which a server begins. What refuses them is a [`CommandFault`], and how the program ends then a
 //! [`Status`].
 #![tactic(auto)]
 
 mod ask_command;
-mod changes_command;
 mod check_command;
 mod command_fault;
 mod document_writer;
@@ -18,7 +17,6 @@ mod publish_command;
 mod query_reader;
 mod ready_writer;
 mod replacing_writer;
-mod root_line_end;
 mod root_lines;
 mod snapshot_reader;
 mod status;
@@ -28,7 +26,6 @@ mod whole_reader;
 mod whole_writer;
 
 pub use ask_command::ask;
-pub use changes_command::changes;
 pub use check_command::check;
 pub use command_fault::CommandFault;
 pub use document_writer::write_document;

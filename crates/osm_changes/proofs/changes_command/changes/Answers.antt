@@ -1,7 +1,7 @@
 use Rattle.std.proofs.Common.{◌∙◌}
-use Rattle.osm_commands.proofs.ChangingLemmas.{device_only, explained_device, explained_unmade, explained_unread, explained_untaken, outside_device, outside_unmade, outside_unread, outside_untaken, unwritten, written_begun, written_whole}
+use Rattle.osm_changes.proofs.ChangingLemmas.{device_only, explained_device, explained_unmade, explained_unread, explained_untaken, outside_device, outside_unmade, outside_unread, outside_untaken, unwritten, written_begun, written_whole}
 use Rattle.osm_commands.proofs.FileLemmas.{unread}
-use Rattle.osm_commands.proofs.changes_command.changes.Goals as goal
+use Rattle.osm_changes.proofs.changes_command.changes.Goals as goal
 
 pub returns-in_err-snapshot-clause-only : goal.returns-in_err-snapshot-clause-only
 returns-in_err-snapshot-clause-only g c =

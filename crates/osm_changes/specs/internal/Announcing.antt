@@ -5,7 +5,7 @@ use Rattle.opl_codec.specs.declared.cause.OplCause.TheVariants as causes
 use Rattle.opl_codec.specs.declared.change.Change.{Change}
 use Rattle.osm_keys.specs.Publications.{Publication}
 use Rattle.osm_desk.specs.Made.{IsMade}
-use Rattle.osm_commands.specs.AnnouncedChanges.{HoldsNoChanges}
+use Rattle.osm_changes.specs.AnnouncedChanges.{HoldsNoChanges}
 use Rattle.osm_commands.specs.declared.command_fault.CommandFault.{CommandFault}
 use Rattle.osm_commands.specs.declared.command_fault.CommandFault.TheVariants.{Opl, Query, Endless, TooLarge, Work, Clash, TooMany, Apply, Memory, Device}
 

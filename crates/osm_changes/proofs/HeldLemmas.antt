@@ -18,9 +18,9 @@ use Rattle.opl_codec.specs.declared.change.Change.TheVariants as changes
 use Rattle.osm_keys.specs.Publications.{Publication, root_of}
 use Rattle.osm_desk.specs.AnnouncedRoots.{root_digits, root_words}
 use Rattle.osm_desk.proofs.shared.RootDigits.{digits_len}
-use Rattle.osm_commands.specs.AnnouncedChanges.{HasRootLine, IsEnded, IsWithLineEnd, IsWithoutRootLine}
+use Rattle.osm_changes.specs.AnnouncedChanges.{HasRootLine, IsEnded, IsWithLineEnd, IsWithoutRootLine}
 use Rattle.osm_commands.specs.TreeRoots.{publication_line}
-use Rattle.osm_commands.proofs.RootLineLemmas.{AreLineFeeds, digits_lack, line_ended, one_line, pieces_over, words_lack}
+use Rattle.osm_changes.proofs.RootLineLemmas.{AreLineFeeds, digits_lack, line_ended, one_line, pieces_over, words_lack}
 
 -- ---- the lines of a text that say something
 

@@ -4,7 +4,7 @@ ghost use Rattle.std.specs.List.{AllByRecursion};
 ghost use Rattle.std.specs.Prelude.{◌≡◌, ◌≤◌, ◌↔◌, ◌∷◌, ◌++◌, [], ℕ, IfOk, IsTrue, List, OnOk, length, take};
 ghost use Rattle.byte_io.specs.Pieces.{Lacks};
 ghost use Rattle.osm_model.specs.Bytes.{line_feed};
-ghost use Rattle.osm_commands.specs.AnnouncedChanges.{HasRootLine, IsEnded, IsWithLineEnd, IsWithoutRootLine};
+ghost use Rattle.osm_changes.specs.AnnouncedChanges.{HasRootLine, IsEnded, IsWithLineEnd, IsWithoutRootLine};
 
 use std::alloc::{AllocError, Global};
 

@@ -13,7 +13,7 @@ use Rattle.opl_codec.specs.Files.{end_comment, if_comment, last_line}
 use Rattle.opl_codec.specs.LineFields.{is_comment, is_some_text}
 use Rattle.osm_keys.specs.Publications.{Publication, root_of}
 use Rattle.osm_desk.specs.AnnouncedRoots.{Announces, AnnouncesSome, root_digits, root_words}
-use Rattle.osm_commands.specs.AnnouncedChanges.{HasRootLine, IsEnded, IsWithLineEnd, IsWithoutRootLine}
+use Rattle.osm_changes.specs.AnnouncedChanges.{HasRootLine, IsEnded, IsWithLineEnd, IsWithoutRootLine}
 use Rattle.osm_commands.specs.TreeRoots.{publication_line}
 
 -- line feeds and nothing else

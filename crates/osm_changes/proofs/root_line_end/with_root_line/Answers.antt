@@ -1,7 +1,7 @@
 use Rattle.std.proofs.Common.{◌++◌, ◌∙◌, ℕ, List, take, append_assoc, ap, subst}
 use Rattle.osm_desk.specs.AnnouncedRoots.{root_words}
-use Rattle.osm_commands.specs.AnnouncedChanges.{IsWithLineEnd, IsWithoutRootLine}
-use Rattle.osm_commands.proofs.root_line_end.with_root_line.Goals as goal
+use Rattle.osm_changes.specs.AnnouncedChanges.{IsWithLineEnd, IsWithoutRootLine}
+use Rattle.osm_changes.proofs.root_line_end.with_root_line.Goals as goal
 
 pub returns : goal.returns
 returns c =

@@ -1,7 +1,7 @@
 use Rattle.std.proofs.Common.{◌++◌, ◌∙◌, ℕ, List, [], ◌∷◌, Some, append_assoc, ap, refl}
 use Rattle.std.proofs.lemmas.Bool.Decides.{Decides-eqb}
 use Rattle.std.proofs.lemmas.Slice.Eq.{strip_suffix_is}
-use Rattle.osm_commands.proofs.root_line_end.without_line_feeds.Goals as goal
+use Rattle.osm_changes.proofs.root_line_end.without_line_feeds.Goals as goal
 
 pub loop-shorter-preserved : goal.loop-shorter-preserved
 loop-shorter-preserved c =

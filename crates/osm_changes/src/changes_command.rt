@@ -9,20 +9,17 @@ ghost use Rattle.osm_keys.specs.Publications.{Publication};
 ghost use Rattle.osm_keys.specs.declared.edition.Edition.TheVariants.{Two};
 ghost use Rattle.osm_index.specs.Snapshots.{HoldsPublication};
 ghost use Rattle.osm_commands.specs.Ask.{HoldsTrees};
-ghost use Rattle.osm_commands.specs.AnnouncedChanges.{AppendBoth, ExplainsChanging, HasRootLine, IsBegunChanging, IsGivenBy, IsOutsideChanging, IsWritten};
+ghost use Rattle.osm_changes.specs.AnnouncedChanges.{AppendBoth, ExplainsChanging, HasRootLine, IsBegunChanging, IsGivenBy, IsOutsideChanging, IsWritten};
 ghost use Rattle.osm_commands.specs.Files.{IfBoth};
 ghost use Rattle.osm_commands.specs.TreeRoots.{publication_line};
-ghost use Rattle.osm_commands.specs.internal.Announcing.{ExplainsUnmade, IsOutsideUnmade};
+ghost use Rattle.osm_changes.specs.internal.Announcing.{ExplainsUnmade, IsOutsideUnmade};
 
-use crate::command_fault::CommandFault;
-use crate::flushing_writer::FlushingWriter;
-use crate::replacing_writer::ReplacingWriter;
 use crate::root_line_end::with_root_line;
-use crate::root_lines::root_line;
-use crate::snapshot_reader::read_snapshot;
-use crate::whole_reader::read_whole;
-use crate::whole_writer::write_whole;
 use opl_codec::read_change_file;
+use osm_commands::{
+    CommandFault, FlushingWriter, ReplacingWriter, read_snapshot, read_whole, root_line,
+    write_whole,
+};
 use osm_desk::Desk;
 use osm_index::{BuildProgress, Edition, Snapshot};
 use std::alloc::Global;

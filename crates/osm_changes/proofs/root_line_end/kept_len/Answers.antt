@@ -2,8 +2,8 @@ use Rattle.std.proofs.Common.{◌-◌, ◌∙◌, ℕ, List, length, sym, take, 
 use Rattle.std.proofs.lemmas.Bool.Decides.{Decides-eqb}
 use Rattle.std.proofs.lemmas.Slice.Eq.{starts_is}
 use Rattle.osm_desk.specs.AnnouncedRoots.{root_words}
-use Rattle.osm_commands.proofs.RootLineLemmas.{Parts, kept_before, kept_whole, last_is}
-use Rattle.osm_commands.proofs.root_line_end.kept_len.Goals as goal
+use Rattle.osm_changes.proofs.RootLineLemmas.{Parts, kept_before, kept_whole, last_is}
+use Rattle.osm_changes.proofs.root_line_end.kept_len.Goals as goal
 
 pub returns-then-starts_with : goal.returns-then-starts_with
 returns-then-starts_with c =

@@ -1,7 +1,7 @@
 -- What was taken away are line feeds.
 use Rattle.std.proofs.Common.{◌≡◌, ◌++◌, ℕ, List, length}
-use Rattle.osm_commands.proofs.RootLineLemmas.{AreLineFeeds}
-use Rattle.osm_commands.proofs.root_line_end.without_line_feeds.Given as goal
+use Rattle.osm_changes.proofs.RootLineLemmas.{AreLineFeeds}
+use Rattle.osm_changes.proofs.root_line_end.without_line_feeds.Given as goal
 
 abbrev pub invariant-loop-shorter : goal.invariant-loop-shorter
 invariant-loop-shorter l = (after : List ℕ) × (l.text ≡ l.left ++ after) × AreLineFeeds after

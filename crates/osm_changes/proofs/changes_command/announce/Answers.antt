@@ -6,11 +6,11 @@ use Rattle.osm_index.specs.Snapshots.{HoldsPublication}
 use Rattle.osm_index.specs.declared.snapshot.Snapshot.{Snapshot}
 use Rattle.osm_desk.specs.Contents.{Contents}
 use Rattle.osm_desk.specs.Made.{IsMade}
-use Rattle.osm_commands.specs.AnnouncedChanges.{HasRootLine}
+use Rattle.osm_changes.specs.AnnouncedChanges.{HasRootLine}
 use Rattle.osm_commands.specs.RootLines.{digest_line}
-use Rattle.osm_commands.specs.internal.Announcing.{ExplainsUnmade}
-use Rattle.osm_commands.proofs.ChangingLemmas.{explained_applying, explained_memory, explained_reading, outside_applying, outside_memory, outside_reading}
-use Rattle.osm_commands.proofs.changes_command.announce.Goals as goal
+use Rattle.osm_changes.specs.internal.Announcing.{ExplainsUnmade}
+use Rattle.osm_changes.proofs.ChangingLemmas.{explained_applying, explained_memory, explained_reading, outside_applying, outside_memory, outside_reading}
+use Rattle.osm_changes.proofs.changes_command.announce.Goals as goal
 
 pub returns-in_err-read-clause-only : goal.returns-in_err-read-clause-only
 returns-in_err-read-clause-only c = λ p holds all are.

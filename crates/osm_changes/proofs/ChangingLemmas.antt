@@ -14,15 +14,15 @@ use Rattle.osm_keys.specs.declared.edition.Edition.TheVariants.{Two}
 use Rattle.osm_index.specs.declared.apply_fault.ApplyFault.{ApplyFault}
 use Rattle.osm_index.specs.declared.apply_fault.ApplyFault.TheVariants as refusals
 use Rattle.osm_desk.specs.Made.{RefusesChanges}
-use Rattle.osm_commands.specs.AnnouncedChanges.{AppendBoth, ExplainsChanging, HasRootLine, HoldsNoChanges, IsBegunChanging, IsGivenBy, IsOutsideChanging, IsWritten}
+use Rattle.osm_changes.specs.AnnouncedChanges.{AppendBoth, ExplainsChanging, HasRootLine, HoldsNoChanges, IsBegunChanging, IsGivenBy, IsOutsideChanging, IsWritten}
 use Rattle.osm_commands.specs.Ask.{HoldsTrees}
 use Rattle.osm_commands.specs.Faults.{fault_of_apply, fault_of_cause, fault_of_load}
 use Rattle.osm_commands.specs.Files.{IfBoth, IsEndless, IsUnread}
 use Rattle.osm_commands.specs.TreeRoots.{ExplainsTrees, IsOutsideOrTrees, IsPublicationIn, publication_line}
 use Rattle.osm_commands.specs.Written.{Output}
-use Rattle.osm_commands.specs.internal.Announcing.{ExplainsUnmade, IsOutsideUnmade}
-use Rattle.osm_commands.proofs.HeldLemmas.{held_again}
-use Rattle.osm_commands.proofs.RootLineLemmas.{root_announced}
+use Rattle.osm_changes.specs.internal.Announcing.{ExplainsUnmade, IsOutsideUnmade}
+use Rattle.osm_changes.proofs.HeldLemmas.{held_again}
+use Rattle.osm_changes.proofs.RootLineLemmas.{root_announced}
 use Rattle.osm_commands.specs.declared.command_fault.CommandFault.{CommandFault}
 use Rattle.osm_commands.specs.declared.command_fault.CommandFault.TheVariants.{Opl, Query, Endless, TooLarge, Work, Clash, TooMany, Apply, Memory, Device}
 

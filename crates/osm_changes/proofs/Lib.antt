@@ -1,0 +1,3 @@
+pub mod ChangingLemmas
+pub mod HeldLemmas
+pub mod RootLineLemmas

@@ -1,0 +1,2 @@
+pub mod AnnouncedChanges
+pub mod internal
