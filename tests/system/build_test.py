@@ -106,10 +106,10 @@ class Site:
             shutil.copy2(TOP / script, self.top)
 
     def begin(self, **variables):
-        """Begins ./osm_mirror, from another folder."""
+        """Begins ./osm_mirror, from another folder. A shell that runs this test in the background has SIGINT ignored."""
         return subprocess.Popen(
             [self.top / "osm_mirror", "ask", "a b"], cwd="/", env=self.environment | variables, stdin=subprocess.PIPE,
-            stdout=subprocess.PIPE, stderr=subprocess.PIPE)
+            stdout=subprocess.PIPE, stderr=subprocess.PIPE, preexec_fn=lambda: signal.signal(signal.SIGINT, signal.SIG_DFL))
 
     def call(self, **variables):
         """What a whole call of ./osm_mirror comes to."""
