@@ -29,9 +29,12 @@ pub(crate) trait Gather<'a> {
             ((option_copied left.entry, link_of child.now) ∷ []) [] }
         ensures opened { result ≡ false → Gains gathers self.old self.new [] [] };
 
-    /// Gathers an entry.
+    /// Gathers an entry. Refused where there is no memory for it, or no room.
     fn take(&mut self, item: Item<'a>) -> Result<(), AllocError>
         ensures { OnOk result (Gains gathers self.old self.new [] (binding_of item.entry ∷ [])) };
+
+    /// How many children of one level may wait to be opened. Where there are more, there are too many entries.
+    fn room(&self) -> usize;
 }
 
 /// The entries that were found, in the order of their keys.
@@ -39,6 +42,8 @@ pub(crate) trait Gather<'a> {
 pub(crate) struct Found<'a> {
     /// The entries so far.
     pub(crate) items: Vec<Item<'a>>,
+    /// How many there may be.
+    pub(crate) most: usize,
 }
 
 impl<'a> Gather<'a> for Found<'a> {
@@ -56,8 +61,16 @@ impl<'a> Gather<'a> for Found<'a> {
     }
 
     fn take(&mut self, item: Item<'a>) -> Result<(), AllocError> {
+        if self.items.len() >= self.most {
+            return Err(AllocError);
+        }
         self.items.push(item)?;
         Ok(())
+    }
+
+    // Each has an entry of the range, but for the first and the last one, whose entries may lie beside it.
+    fn room(&self) -> usize {
+        self.most.saturating_add(2)
     }
 }
 
@@ -85,5 +98,9 @@ impl<'a> Gather<'a> for Counted {
     fn take(&mut self, _item: Item<'a>) -> Result<(), AllocError> {
         self.number = self.number.saturating_add(1);
         Ok(())
+    }
+
+    fn room(&self) -> usize {
+        usize::MAX
     }
 }

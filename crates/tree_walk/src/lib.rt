@@ -24,4 +24,4 @@ pub use laws::{
 };
 pub use tally::Tally;
 pub use tree_node::Item;
-pub use walk::{count, range};
+pub use walk::{count, range, range_within};

@@ -55,7 +55,8 @@ impl<'a> Pending<'a> {
 }
 
 /// Puts the children that are opened after those of the nodes to the left, and gathers those that stay
-/// closed. It stops at the first child that begins where the range has ended.
+/// closed. It stops at the first child that begins where the range has ended. Refused where memory runs out, or the room for
+/// children that wait.
 pub(crate) fn pick<'a, G: Gather<'a>>(
     children: Children<'a>,
     left: Option<&'a [u8]>,
@@ -80,6 +81,9 @@ pub(crate) fn pick<'a, G: Gather<'a>>(
     for child in children {
         if !range.goes_on_above(bound) {
             return Ok(());
+        }
+        if pending.len() >= gathered.room() {
+            return Err(AllocError);
         }
         if !gathered.closes(range, bound, &child) {
             pending.push(Pending { left: bound, child })?;

@@ -68,8 +68,54 @@ pub fn range<'a, S: Shelf<'a>>(
         (IsMet (range_of range.now) (levels shape (number_of tree) entries))
         (nodes_around S.holds S.used shelf.old shelf.new) result }
 {
+    range_within(alloc, shelf, top, tree, range, usize::MAX, tally)
+}
+
+/// The entries of a tree in a range of keys as [`range`] gives them, where there are at most so many.
+///
+/// Where there are more it is refused as if memory ran out, before it holds more of them, and before more children of one
+/// level than that, and two, wait to be opened: what it needs is linear in the number that is allowed, whatever the range
+/// has. Whoever has to tell the two refusals apart counts the range. All else is as for `range`.
+///
+/// Source: this project's trees, docs/FORMATS.md.
+pub fn range_within<'a, S: Shelf<'a>>(
+    alloc: Global,
+    shelf: &mut S,
+    top: &Digest,
+    tree: Tree,
+    range: &KeyRange<'_>,
+    most: usize,
+    tally: &mut Tally,
+) -> Result<Vec<Item<'a>>, WalkFault>
+    requires { IsIn (range_of range.now) range.now.lo.now }
+    // What is held stays held, on a fixed shelf just that, and what was used stays used.
+    ensures stays { Stays S.is_fixed (S.holds shelf.old) (S.holds shelf.new) }
+    ensures grows { (bytes : List ℕ) → S.used shelf.old bytes → S.used shelf.new bytes }
+    // One call was counted, and the fetched nodes, which differ.
+    ensures calls { tally.new.calls ≡ counted_up tally.old.calls 1 }
+    ensures fetches { Fetches result (nodes_around S.holds S.used shelf.old shelf.new)
+        tally.old.fetches tally.new.fetches }
+    // A refusal tells what is wrong with a node that it came to want,
+    ensures told { IfErr result
+        (HasReason (number_of tree) top.now.0 (S.holds shelf.new) (S.used shelf.new)) }
+    // and on a fixed shelf it is V1 if the top isn't held.
+    ensures none { S.is_fixed ≡ true → HasNone (S.holds shelf.new) top.now.0
+        → result ≡ Err WalkFault.Missing }
+    // Whatever the nodes are: those that it fetched, one at least, and no others give these entries.
+    ensures gives { IfOk result (λ found. IsWalk
+        (nodes_around S.holds S.used shelf.old shelf.new) tally.old.fetches tally.new.fetches
+        tree top.now.0 (range_of range.now) (These (bindings_of found.items))) }
+    // Under the top of a tree: exactly the entries in the range, from exactly the nodes that meet it.
+    ensures answer { (shape : Shape) (entries : List Binding)
+        → IsTopOf shape (number_of tree) entries top.now.0
+        → Outcome cause_of
+        (λ found. AreThose (IsEntryIn (range_of range.now)) entries (bindings_of found.items))
+        (IsMet (range_of range.now) (levels shape (number_of tree) entries))
+        (nodes_around S.holds S.used shelf.old shelf.new) result }
+{
     let mut found: Found<'a> = Found {
         items: Vec::new(alloc),
+        most,
     };
     gather(alloc, shelf, top, tree, range, tally, &mut found)?;
     Ok(found.items)

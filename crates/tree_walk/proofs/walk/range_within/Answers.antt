@@ -7,7 +7,7 @@ use Rattle.tree_walk.proofs.CallLemmas.{found_all, met_is, walk_found}
 use Rattle.tree_node.proofs.shared.OutcomeLaws.{outcome_as, outcome_stops}
 use Rattle.tree_node.proofs.shared.Results.{err_is}
 use Rattle.tree_walk.proofs.ReasonLemmas.{refused_as, refused_missing}
-use Rattle.tree_walk.proofs.walk.range.Goals as goal
+use Rattle.tree_walk.proofs.walk.range_within.Goals as goal
 
 pub returns-in_err-gather-clause-told : goal.returns-in_err-gather-clause-told
 returns-in_err-gather-clause-told g c =
