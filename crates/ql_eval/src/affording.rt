@@ -1,4 +1,4 @@
-//! What a scan reads, counted before it is read.
+//! What a scan would read, counted where it is more than a budget allows.
 
 ghost use Rattle.std.specs.Prelude.{◌≡◌, ℕ, IfErr, OnOk, Some, ⊤};
 ghost use Rattle.std.specs.Option.{ForSome, option_map};
@@ -24,16 +24,17 @@ use crate::source::Source;
 use osm_model::Kind;
 use ql_syntax::{Filter, Pick};
 
-/// Where there is a budget: refused, as by a meter, if the entries alone that the base of a query statement reads pass it.
-/// They are counted, by walks that use only nodes that reading them uses too. Without a budget nothing is asked.
+/// For a base whose reading was refused as memory is, with what was counted before it: refused so again where there is a
+/// budget, and the entries alone that the base reads pass it. They are counted then, by walks that use only nodes that
+/// reading them uses too. Otherwise memory did run out.
 pub(crate) fn afford_base<W: Source>(
     source: &mut W,
     meter: &mut Meter,
+    before: u128,
     pick: Pick,
     base: Option<&Filter<'_>>,
 ) -> Result<(), EvalFault>
     ensures later { W.later source.old source.new }
-    ensures walked { OnOk result (W.walked source.old source.new) }
     ensures told { IfErr result (W.tells source.new) }
     ensures answer { let filter = option_map (λ f. filter_of f.now) base.entry in
         (p : Publication) (env : Env) → IsPublication p → W.under source.old p
@@ -44,13 +45,15 @@ pub(crate) fn afford_base<W: Source>(
     ensures bounded { let filter = option_map (λ f. filter_of f.now) base.entry in
         (p : Publication) (env : Env) → IsPublication p → W.under source.old p
         → ForSome filter (Allows pick) → HasNoClash p (W.used source.new)
-        → IsBounded (WorkOfFinding p env pick filter) meter.old.spent meter.new.spent }
-    ensures same { OnOk result (meter.new.spent ≡ meter.old.spent) }
+        → IsBounded (WorkOfFinding p env pick filter) before meter.old.spent
+        → IsBounded (WorkOfFinding p env pick filter) before meter.new.spent }
 {
-    if !meter.is_limited() {
+    // (where what was read was counted and passes it, that tells why)
+    if !meter.is_limited() || meter.is_passed() {
         return Ok(());
     }
     let number = count_base(source, pick, base)?;
+    meter.spent = before;
     Ok(meter.afford(number)?)
 }
 

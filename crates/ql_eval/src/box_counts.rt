@@ -1,4 +1,4 @@
-//! How many nodes the cells have that a box meets, counted before they are read.
+//! How many nodes the cells have that a box meets, counted without reading them.
 
 ghost use Rattle.std.specs.Prelude.{◌≡◌, ◌≤◌, ◌⊎◌, ◌↔◌, ℕ, IfErr, IsTrue, List, OnOk};
 ghost use Rattle.std.specs.List.{Contains};

@@ -48,12 +48,13 @@ pub(crate) struct InBox {
 }
 
 /// The nodes in a box, as a set, and how many nodes the cells have that it meets. Where the box goes round the earth to the
-/// cells that it begins in, their nodes come twice; each counts once.
+/// cells that it begins in, their nodes come twice; each counts once. Refused as memory is where more than `most` come.
 pub(crate) fn find_in_box<'a, S: Shelf<'a>>(
     alloc: Global,
     shelf: &mut S,
     manifest: &Manifest,
     area: &BoxArea<'_>,
+    most: usize,
     tally: &mut Tally,
 ) -> Result<InBox, EvalFault>
     ensures stays { Stays S.is_fixed (S.holds shelf.old) (S.holds shelf.new) }
@@ -81,7 +82,7 @@ pub(crate) fn find_in_box<'a, S: Shelf<'a>>(
     let mut cells = Vec::new(alloc);
     for keys in &ranges {
         add_range(
-            alloc, shelf, manifest, area, keys, tally, &mut names, &mut cells,
+            alloc, shelf, manifest, area, keys, most, tally, &mut names, &mut cells,
         )?;
     }
     let cells = RefSet::from_refs(cells);
@@ -92,13 +93,15 @@ pub(crate) fn find_in_box<'a, S: Shelf<'a>>(
     })
 }
 
-/// Adds the nodes in a box that a range of cells has, and all nodes that it has.
+/// Adds the nodes in a box that a range of cells has, and all nodes that it has. Refused as memory is where these are more
+/// than `most` then.
 fn add_range<'a, S: Shelf<'a>>(
     alloc: Global,
     shelf: &mut S,
     manifest: &Manifest,
     area: &BoxArea<'_>,
     keys: &OwnedRange,
+    most: usize,
     tally: &mut Tally,
     names: &mut Vec<Ref>,
     cells: &mut Vec<Ref>,
@@ -123,7 +126,15 @@ fn add_range<'a, S: Shelf<'a>>(
         (NeededBy p (IsCellsAsk keys.now))
         (nodes_around S.holds S.used shelf.old shelf.new) result }
 {
-    let found = entries_in(alloc, shelf, manifest, Tree::Cells, &keys.as_range(), tally)?;
+    let found = entries_in(
+        alloc,
+        shelf,
+        manifest,
+        Tree::Cells,
+        &keys.as_range(),
+        most.saturating_sub(cells.len()),
+        tally,
+    )?;
     add_nodes(area, &found, names, cells)
 }
 

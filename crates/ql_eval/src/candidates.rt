@@ -44,8 +44,8 @@ use ql_syntax::{Filter, Pick};
 use ref_sets::{NamedSets, RefSet};
 use std::alloc::{AllocError, Global};
 
-/// The objects of a kind that the base keeps, or all of the kind where there is none, as a set. Where there is a budget, what is
-/// to be read is counted before.
+/// The objects of a kind that the base keeps, or all of the kind where there is none, as a set. Where there is a budget, no
+/// more is read than it allows, and what there is to read is counted where it is more.
 pub(crate) fn find_candidates<W: Source>(
     alloc: Global,
     source: &mut W,
@@ -71,7 +71,7 @@ pub(crate) fn find_candidates<W: Source>(
         (IsRefOf p.objects (IsSelected p.objects env pick (option_to_list filter))))
         (NeededBy p (AskedByBase p.objects env (kind_picked pick) filter))
         (nodes_around W.holds W.used source.old source.new) result }
-    // Where it is refused before anything is read, steps for candidates may have been counted.
+    // Where there is more to read than the budget allows, steps for candidates have been counted.
     ensures bounded { let env = lists_of sets.now.named.items in
         let filter = option_map (λ f. filter_of f.now) base.entry in
         (p : Publication) → IsPublication p → W.under source.old p → AreAllThere p.objects env
@@ -88,15 +88,67 @@ pub(crate) fn find_candidates<W: Source>(
         → ForSome filter (Allows pick) → HasNoClash p (W.used source.new)
         → IsSpent (WorkOfBase p.objects filter) meter.old.spent meter.new.spent) }
 {
-    afford_base(source, meter, pick, base)?;
+    let before = meter.spent;
+    match read_base(alloc, source, meter, pick, base, sets) {
+        Ok(refs) => Ok(refs),
+        Err(EvalFault::Memory) => {
+            afford_base(source, meter, before, pick, base)?;
+            Err(EvalFault::Memory)
+        }
+        Err(fault) => Err(fault),
+    }
+}
+
+/// The same, refused as memory is where there is more to read than the budget allows.
+fn read_base<W: Source>(
+    alloc: Global,
+    source: &mut W,
+    meter: &mut Meter,
+    pick: Pick,
+    base: Option<&Filter<'_>>,
+    sets: &NamedSets<'_>,
+) -> Result<RefSet, EvalFault>
+    requires base { ForSome (option_map (λ f. filter_of f.now) base)
+        (λ base. rank_of base < never) }
+    requires asked { (r : Ref) → IsAskedById pick (option_to_list (option_map (λ f. filter_of f.now) base)) r
+        → W.may_be_absent source.old r }
+    requires named { AllSetsGiven (W.gave source.old) (lists_of sets.now.named.items) }
+    ensures later { W.later source.old source.new }
+    ensures walked { OnOk result (W.walked source.old source.new) }
+    ensures told { IfErr result (W.tells source.new) }
+    ensures named { IfOk result (AllGiven (W.gave source.new)) }
+    ensures answer { let env = lists_of sets.now.named.items in
+        let filter = option_map (λ f. filter_of f.now) base.entry in
+        (p : Publication) → IsPublication p → W.under source.old p → AreAllThere p.objects env
+        → ForSome filter (Allows pick)
+        → Outcome cause_of_evaluation (λ refs. IsSetOf refs
+        (IsRefOf p.objects (IsSelected p.objects env pick (option_to_list filter))))
+        (NeededBy p (AskedByBase p.objects env (kind_picked pick) filter))
+        (nodes_around W.holds W.used source.old source.new) result }
+    ensures bounded { let env = lists_of sets.now.named.items in
+        let filter = option_map (λ f. filter_of f.now) base.entry in
+        (p : Publication) → IsPublication p → W.under source.old p → AreAllThere p.objects env
+        → ForSome filter (Allows pick) → HasNoClash p (W.used source.new)
+        → IsBounded (WorkOfBase p.objects filter) meter.old.spent meter.new.spent }
+    ensures spent { OnOk result (let env = lists_of sets.now.named.items in
+        let filter = option_map (λ f. filter_of f.now) base.entry in
+        (p : Publication) → IsPublication p → W.under source.old p → AreAllThere p.objects env
+        → ForSome filter (Allows pick) → HasNoClash p (W.used source.new)
+        → IsSpent (WorkOfBase p.objects filter) meter.old.spent meter.new.spent) }
+{
     match base {
-        None => of_kinds(alloc, source, kinds_in(kind_of(pick))),
+        None => of_kinds(alloc, source, kinds_in(kind_of(pick)), meter.room()),
         Some(filter) => kept_by(alloc, source, meter, pick, filter, sets),
     }
 }
 
-/// The objects of some kinds, as a set.
-fn of_kinds<W: Source>(alloc: Global, source: &mut W, kinds: &[Kind]) -> Result<RefSet, EvalFault>
+/// The objects of some kinds, as a set. Refused as memory is where one of the kinds has more than `most`.
+fn of_kinds<W: Source>(
+    alloc: Global,
+    source: &mut W,
+    kinds: &[Kind],
+    most: usize,
+) -> Result<RefSet, EvalFault>
     ensures later { W.later source.old source.new }
     ensures walked { OnOk result (W.walked source.old source.new) }
     ensures told { IfErr result (W.tells source.new) }
@@ -109,13 +161,18 @@ fn of_kinds<W: Source>(alloc: Global, source: &mut W, kinds: &[Kind]) -> Result<
 {
     let mut refs = Vec::new(alloc);
     for kind in kinds {
-        add_kind(source, *kind, &mut refs)?;
+        add_kind(source, *kind, most, &mut refs)?;
     }
     Ok(RefSet::from_refs(refs))
 }
 
-/// Adds the objects of a kind.
-fn add_kind<W: Source>(source: &mut W, kind: Kind, refs: &mut Vec<Ref>) -> Result<(), EvalFault>
+/// Adds the objects of a kind. Refused as memory is where it has more than `most`.
+fn add_kind<W: Source>(
+    source: &mut W,
+    kind: Kind,
+    most: usize,
+    refs: &mut Vec<Ref>,
+) -> Result<(), EvalFault>
     requires { AllGiven (W.gave source.old) refs.old.items }
     ensures later { W.later source.old source.new }
     ensures walked { OnOk result (W.walked source.old source.new) }
@@ -127,7 +184,7 @@ fn add_kind<W: Source>(source: &mut W, kind: Kind, refs: &mut Vec<Ref>) -> Resul
         (NeededBy p (IsKindAsk kind))
         (nodes_around W.holds W.used source.old source.new) result }
 {
-    let found = source.names(&Question::OfKind(kind))?;
+    let found = source.names(&Question::OfKind(kind), most)?;
     refs.extend_from_slice(found.as_slice())?;
     Ok(())
 }
@@ -172,11 +229,10 @@ fn kept_by<W: Source>(
         Filter::Ids(ids) => with_ids(alloc, source, ids.as_slice(), kind),
         Filter::InSet(name) => Ok(picked(alloc, sets.get(name.as_bytes()), kind)?),
         Filter::Via(path, name) => on_path(alloc, source, *path, sets.get(name.as_bytes()), kind),
-        Filter::KeyIs(key, value) => source.names(&Question::WithTag(
-            key.as_bytes(),
-            value.as_bytes(),
-            kind,
-        )),
+        Filter::KeyIs(key, value) => {
+            let question = Question::WithTag(key.as_bytes(), value.as_bytes(), kind);
+            source.names(&question, meter.room())
+        }
         Filter::HasKey(key) => with_key(alloc, source, meter, key.as_bytes(), kind),
         Filter::Within(area) => in_box(alloc, source, meter, area, kind),
         Filter::LacksKey(_) | Filter::KeyIsNot(_, _) => unreachable!("never a base"),
@@ -254,7 +310,7 @@ fn with_key<W: Source>(
         → IsSpent (OfSet (IsRefOf p.objects (λ o. HasKeyOf o key.now))
         (λ found. Steps (length found))) meter.old.spent meter.new.spent) }
 {
-    let found = source.names(&Question::WithKey(key))?;
+    let found = source.names(&Question::WithKey(key), meter.room())?;
     meter.charge(found.as_slice().len())?;
     Ok(picked(alloc, &found, kind)?)
 }
@@ -285,7 +341,8 @@ fn in_box<W: Source>(
         → IsSpent (OfSet (IsRefOf p.objects (IsInCellsOf area.now))
         (λ found. Steps (length found))) meter.old.spent meter.new.spent) }
 {
-    let found = source.nodes_in(area)?;
+    // Where the box goes round the earth a cell may be read twice.
+    let found = source.nodes_in(area, meter.room().saturating_mul(2))?;
     meter.charge(found.read)?;
     Ok(picked(alloc, &found.nodes, kind)?)
 }

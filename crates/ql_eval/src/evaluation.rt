@@ -186,8 +186,8 @@ pub fn evaluate_in<'a, S: Shelf<'a>, T: Sink>(
 /// that a recursion starts from; and each object that is printed. What was asked before and is remembered is counted as if it
 /// were done again.
 ///
-/// What a tag, a key, a box or a scan reads is counted before it is read, by walks that fetch only nodes at the ends of its
-/// ranges, and that the report counts too. Where it alone passes what the budget has left, nothing of it is read. What paths
+/// Of what a tag, a key, a box or a scan finds no more is read than the budget has left, of a box twice as much. Where there is
+/// more, it is counted by walks that fetch only nodes at the ends of its ranges, so that it is refused with `Work`. What paths
 /// and recursions find is counted once it is found: it is bounded by what the objects of the set list that they start from, or
 /// by what lists them.
 ///

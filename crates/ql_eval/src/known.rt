@@ -112,7 +112,15 @@ fn find_object<'a, S: Shelf<'a>>(
         hi: &key,
         under: false,
     };
-    let found = entries_in(alloc, shelf, manifest, Tree::Objects, &keys, tally)?;
+    let found = entries_in(
+        alloc,
+        shelf,
+        manifest,
+        Tree::Objects,
+        &keys,
+        usize::MAX,
+        tally,
+    )?;
     last_object(alloc, &found)
 }
 

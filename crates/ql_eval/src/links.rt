@@ -166,7 +166,7 @@ fn add_referrers<W: Source>(
         (NeededBy p (IsBackAsk kind name))
         (nodes_around W.holds W.used source.old source.new) result }
 {
-    let found = source.names(&Question::ThatList(name, kind))?;
+    let found = source.names(&Question::ThatList(name, kind), usize::MAX)?;
     refs.extend_from_slice(found.as_slice())?;
     Ok(())
 }

@@ -36,12 +36,14 @@ use tree_walk::Tally;
 ///
 /// Refused where the walk is (E1), where an entry that it found isn't of its tree's form (E2), and where memory runs
 /// out. Over the trees of a publisher only a missing node and memory refuse it, unless two nodes have one digest. What
-/// was used until then stays used. Keys and values with a NUL are in no tag; for them other objects may come.
+/// was used until then stays used. It is refused as memory is, too, where there are more entries than `most`. Keys and
+/// values with a NUL are in no tag; for them other objects may come.
 pub(crate) fn find_names<'a, S: Shelf<'a>>(
     alloc: Global,
     shelf: &mut S,
     manifest: &Manifest,
     question: &Question<'_>,
+    most: usize,
     tally: &mut Tally,
 ) -> Result<RefSet, EvalFault>
     ensures stays { Stays S.is_fixed (S.holds shelf.old) (S.holds shelf.new) }
@@ -60,7 +62,7 @@ pub(crate) fn find_names<'a, S: Shelf<'a>>(
 {
     let tree = tree_of(question);
     let keys = keys_of(alloc, question)?;
-    let found = entries_in(alloc, shelf, manifest, tree, &keys.as_range(), tally)?;
+    let found = entries_in(alloc, shelf, manifest, tree, &keys.as_range(), most, tally)?;
     names_in(alloc, tree, &found)
 }
 

@@ -93,6 +93,14 @@ impl Meter {
         self.most.is_some()
     }
 
+    /// How many steps may still be done.
+    pub(crate) fn room(&self) -> usize {
+        match self.most {
+            Some(most) => ((most as u128).saturating_sub(self.spent) / STEP) as usize,
+            None => usize::MAX,
+        }
+    }
+
     /// Refused as [`Meter::charge`] where so many more steps pass the budget. They are known to be part of the work, and are
     /// counted then, though they aren't done: the evaluation ends. Where they don't pass it nothing is counted.
     pub(crate) fn afford(&mut self, steps: u64) -> Result<(), AllocError>
@@ -113,10 +121,17 @@ impl Meter {
 
     /// Refused where the budget is passed.
     fn stop(&self) -> Result<(), AllocError> {
-        if self.passes(self.most) {
+        if self.is_passed() {
             return Err(AllocError);
         }
         Ok(())
+    }
+
+    /// Whether more was done than the budget has.
+    pub(crate) fn is_passed(&self) -> bool
+        ensures { IsTrue result ↔ Passes self.now.most self.now.spent }
+    {
+        self.passes(self.most)
     }
 
     /// Whether more was done than a budget has.

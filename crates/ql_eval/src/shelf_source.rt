@@ -212,12 +212,13 @@ impl<'s, 'q, 'a, S: Shelf<'a>> Source for ShelfSource<'s, 'q, 'a, S> {
         self.memo.remember(how, set, refs)
     }
 
-    fn names(&mut self, question: &Question<'_>) -> Result<RefSet, EvalFault> {
+    fn names(&mut self, question: &Question<'_>, most: usize) -> Result<RefSet, EvalFault> {
         find_names(
             self.alloc,
             &mut *self.shelf,
             &self.manifest,
             question,
+            most,
             &mut self.tally,
         )
     }
@@ -232,12 +233,13 @@ impl<'s, 'q, 'a, S: Shelf<'a>> Source for ShelfSource<'s, 'q, 'a, S> {
         )
     }
 
-    fn nodes_in(&mut self, area: &BoxArea<'_>) -> Result<InBox, EvalFault> {
+    fn nodes_in(&mut self, area: &BoxArea<'_>, most: usize) -> Result<InBox, EvalFault> {
         find_in_box(
             self.alloc,
             &mut *self.shelf,
             &self.manifest,
             area,
+            most,
             &mut self.tally,
         )
     }

@@ -97,8 +97,8 @@ pub(crate) trait Source {
         ensures { (object : Option Element) → knows self.now name object
             → option_copied result ≡ object };
 
-    /// The objects that a question is after, as a set.
-    fn names(&mut self, question: &Question<'_>) -> Result<RefSet, EvalFault>
+    /// The objects that a question is after, as a set. Refused as memory is where there are more entries than `most`.
+    fn names(&mut self, question: &Question<'_>, most: usize) -> Result<RefSet, EvalFault>
         ensures later { later self.old self.new }
         ensures walked { OnOk result (walked self.old self.new) }
         ensures told { IfErr result (tells self.new) }
@@ -120,8 +120,9 @@ pub(crate) trait Source {
             (NeedsAsk p (count_ask (question_of question.now)))
             (nodes_around holds used self.old self.new) result };
 
-    /// The nodes in a box, as a set, and how many nodes the cells have that it meets.
-    fn nodes_in(&mut self, area: &BoxArea<'_>) -> Result<InBox, EvalFault>
+    /// The nodes in a box, as a set, and how many nodes the cells have that it meets. Refused as memory is where there are
+    /// more entries than `most`.
+    fn nodes_in(&mut self, area: &BoxArea<'_>, most: usize) -> Result<InBox, EvalFault>
         ensures later { later self.old self.new }
         ensures walked { OnOk result (walked self.old self.new) }
         ensures told { IfErr result (tells self.new) }

@@ -22,15 +22,17 @@ ghost use Rattle.tree_walk.specs.Uses.{nodes_around};
 use osm_keys::Manifest;
 use std::alloc::Global;
 use tree_node::{Digest, Item, Shelf, Tree};
-use tree_walk::{KeyRange, Tally, WalkFault, count, range};
+use tree_walk::{KeyRange, Tally, WalkFault, count, range_within};
 
-/// The entries of a tree in a range of keys. The shelf is told first that it will be asked for them.
+/// The entries of a tree in a range of keys, refused as memory is where there are more than so many. The shelf is told first
+/// that it will be asked for them.
 pub(crate) fn entries_in<'a, S: Shelf<'a>>(
     alloc: Global,
     shelf: &mut S,
     manifest: &Manifest,
     tree: Tree,
     keys: &KeyRange<'_>,
+    most: usize,
     tally: &mut Tally,
 ) -> Result<Vec<Item<'a>>, WalkFault>
     requires { IsIn (range_of keys.now) keys.now.lo.now }
@@ -52,16 +54,17 @@ pub(crate) fn entries_in<'a, S: Shelf<'a>>(
         (nodes_around S.holds S.used shelf.old shelf.new) result }
 {
     shelf.announce(top_of(manifest, tree), keys.lo, keys.hi);
-    listed_in(alloc, shelf, manifest, tree, keys, tally)
+    listed_in(alloc, shelf, manifest, tree, keys, most, tally)
 }
 
-/// The entries of a tree in a range of keys.
+/// The entries of a tree in a range of keys, refused as memory is where there are more than so many.
 fn listed_in<'a, S: Shelf<'a>>(
     alloc: Global,
     shelf: &mut S,
     manifest: &Manifest,
     tree: Tree,
     keys: &KeyRange<'_>,
+    most: usize,
     tally: &mut Tally,
 ) -> Result<Vec<Item<'a>>, WalkFault>
     requires { IsIn (range_of keys.now) keys.now.lo.now }
@@ -82,7 +85,15 @@ fn listed_in<'a, S: Shelf<'a>>(
         (NeedsAsk p (Listed tree (range_of keys.now)))
         (nodes_around S.holds S.used shelf.old shelf.new) result }
 {
-    range(alloc, shelf, top_of(manifest, tree), tree, keys, tally)
+    range_within(
+        alloc,
+        shelf,
+        top_of(manifest, tree),
+        tree,
+        keys,
+        most,
+        tally,
+    )
 }
 
 /// The number of entries of a tree in a range of keys.

@@ -13,10 +13,10 @@ pub(super) fn sixty_five(alloc: Global) -> Result<String, Fail> {
     Ok(text)
 }
 
-/// The same nodes, each with a tag.
-pub(super) fn sixty_five_tagged(alloc: Global) -> Result<String, Fail> {
+/// Nodes from 1 on, each with a tag.
+pub(super) fn tagged_nodes(alloc: Global, count: u8) -> Result<String, Fail> {
     let mut text = String::new(alloc);
-    for id in 1..66_u8 {
+    for id in 1..=count {
         let line = format!(in alloc; "n{id} Ta=1 x0 y0\n")?;
         text.push_str(line.as_str())?;
     }

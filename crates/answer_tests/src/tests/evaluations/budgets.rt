@@ -43,50 +43,61 @@ fn a_node_in_two_ranges_counts_once(rt: HostRuntime) -> Result<(), Fail> {
     Ok(())
 }
 
-/// A query over 65 nodes, what it has done before it reads them, and its work. Each tree of theirs has two leaves under one
-/// node.
-type Scan = (&'static str, u64, u64);
+/// A query over 65 nodes, what it has done before it reads them, how often it reads a node with a budget for 64 of them, and its
+/// work. Each tree of theirs has two leaves under one node.
+type Scan = (&'static str, u64, u64, u64);
 
 /// A step for each filter, then one for each candidate, and one for the statement and each node that it writes; in the second
-/// and the last one each node is read as a step too.
+/// and the last one each node is read as a step too. The manifest, the top and both leaves are read before the last node is
+/// found to be one too many, and then the top and the first leaf to count them all. Of a box twice as many may be read.
 const SCANS: [Scan; 4] = [
-    ("node;", 0, 13100),
-    ("nwr[\"a\"];", 100, 19700),
-    ("node[\"a\"=\"1\"];", 100, 13200),
-    ("node(0,0,0.01,0.01);", 100, 19700),
+    ("node;", 0, 6, 13100),
+    ("nwr[\"a\"];", 100, 6, 19700),
+    ("node[\"a\"=\"1\"];", 100, 6, 13200),
+    ("node(0,0,0.01,0.01);", 100, 4, 19700),
 ];
 
 #[test]
-fn scans_are_refused_before_they_read(rt: HostRuntime) -> Result<(), Fail> {
+fn scans_end_where_the_budget_does(rt: HostRuntime) -> Result<(), Fail> {
     let alloc = rt.alloc();
-    let set = texts_of_sets::sixty_five_tagged(alloc)?;
+    let set = texts_of_sets::tagged_nodes(alloc, 65)?;
     let snapshot = snapshot_of(alloc, set.as_str(), Edition::One)?;
-    for (text, before, work) in &SCANS {
-        // The manifest, and then the top and the first leaf: what is after that is counted without being read.
+    for (text, before, reads, work) in &SCANS {
+        // The second leaf isn't read where there is no room for the first one's entries.
+        let none = refused(&rt, &snapshot, text, Some(*before))?;
+        assert_eq!(rt; none, 5, "{text}");
         let entries = before.saturating_add(6500);
         let few = refused(&rt, &snapshot, text, entries.checked_sub(1))?;
-        assert_eq!(rt; few, 3, "{text}");
-        // With a step for each entry the top and both leaves are read after they were counted.
+        assert_eq!(rt; few, *reads, "{text}");
+        // With a step for each entry the manifest, the top and both leaves are read, and nothing has to be counted.
         let read = refused(&rt, &snapshot, text, Some(entries))?;
-        assert_eq!(rt; read, 6, "{text}");
+        assert_eq!(rt; read, 4, "{text}");
         let almost = refused(&rt, &snapshot, text, work.checked_sub(1))?;
-        assert_eq!(rt; almost, 6, "{text}");
+        assert_eq!(rt; almost, 4, "{text}");
         let query = parse(alloc, text.as_bytes())?;
-        let kept = evaluated(alloc, &snapshot, &query, Some(*work))?;
-        let wanted = Report {
-            ranges: 2,
-            fetched: 5,
-            work: *work,
-        };
-        assert_eq!(rt; kept, Ok(wanted), "{text}");
-        // Without a budget nothing is counted before.
-        let free = evaluated(alloc, &snapshot, &query, None)?;
         let wanted = Report {
             ranges: 1,
             fetched: 3,
             work: *work,
         };
+        let kept = evaluated(alloc, &snapshot, &query, Some(*work))?;
+        assert_eq!(rt; kept, Ok(wanted), "{text}");
+        let free = evaluated(alloc, &snapshot, &query, None)?;
         assert_eq!(rt; free, Ok(wanted), "{text}");
+    }
+    Ok(())
+}
+
+/// Over 193 nodes a tree has four leaves. No more children wait than there is room for entries, and two: so the manifest and the
+/// top alone are read, and then the top and the first leaf to count all. With room for two entries the first leaf is read too.
+#[test]
+fn no_more_children_wait_than_entries_fit(rt: HostRuntime) -> Result<(), Fail> {
+    let alloc = rt.alloc();
+    let set = texts_of_sets::tagged_nodes(alloc, 193)?;
+    let snapshot = snapshot_of(alloc, set.as_str(), Edition::One)?;
+    for (most, reads) in [(0, 4), (199, 4), (200, 5)] {
+        let seen = refused(&rt, &snapshot, "node;", Some(most))?;
+        assert_eq!(rt; seen, reads, "{most}");
     }
     Ok(())
 }
