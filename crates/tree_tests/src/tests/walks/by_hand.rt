@@ -9,7 +9,7 @@ ghost use Rattle.tree_node.specs.declared.limits.TheConstants.{ITEM_LIMIT};
 use std::alloc::{AllocError, Global};
 use std::test::Fail;
 use tree_node::{Child, Digest, ITEM_LIMIT, Item, Shelf, Stock, Tree, write_inner, write_leaf};
-use tree_walk::{KeyRange, Tally, WalkFault, count, range};
+use tree_walk::{KeyRange, Tally, WalkFault, count, range, range_within};
 
 /// The keys from the first to the last, and where `under` holds those that the last begins.
 pub(super) fn range_of<'a>(lo: &'a [u8], hi: &'a [u8], under: bool) -> KeyRange<'a> {
@@ -36,6 +36,24 @@ pub(super) fn walked<'a, S: Shelf<'a>>(
     }
     let mut tally = Tally::default();
     match range(alloc, shelf, top, Tree::Tags, keys, &mut tally) {
+        Ok(items) => Ok((Ok(items.len() as u64), tally)),
+        Err(fault) => Ok((Err(fault), tally)),
+    }
+}
+
+/// What a walk over all gave that may give so many entries.
+pub(super) fn walked_within<'a, S: Shelf<'a>>(
+    alloc: Global,
+    shelf: &mut S,
+    top: &Digest,
+    most: usize,
+) -> Result<Answer, Fail> {
+    let keys = all();
+    if !keys.contains(keys.lo) {
+        return Err(Fail::from("the range is empty"));
+    }
+    let mut tally = Tally::default();
+    match range_within(alloc, shelf, top, Tree::Tags, &keys, most, &mut tally) {
         Ok(items) => Ok((Ok(items.len() as u64), tally)),
         Err(fault) => Ok((Err(fault), tally)),
     }

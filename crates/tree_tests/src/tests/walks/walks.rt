@@ -2,6 +2,7 @@
 
 use super::by_hand::{
     Answer, all, child, counted, put_65_keys, put_130_keys, put_inner, put_leaf, range_of, walked,
+    walked_within,
 };
 use std::alloc::Global;
 use std::process::Abort;
@@ -102,6 +103,49 @@ fn is_asked(rt: &impl Abort, alloc: Global, row: &Row) -> Result<(), Fail> {
 fn walks_and_counts(rt: HostRuntime) -> Result<(), Fail> {
     for row in &ROWS {
         is_asked(&rt, rt.alloc(), row)?;
+    }
+    Ok(())
+}
+
+/// How many entries a walk over the 130 keys may give; what it gives, and how many nodes it fetches. Its three leaves have 64,
+/// 64 and 2 of them.
+type Room = (usize, Result<u64, WalkFault>, u64);
+
+const ROOMS: [Room; 5] = [
+    (130, Ok(130), 4),
+    (129, Err(WalkFault::Memory), 4),
+    (64, Err(WalkFault::Memory), 3),
+    // The first leaf has more than one.
+    (1, Err(WalkFault::Memory), 2),
+    // No more than two leaves may wait, so none is opened.
+    (0, Err(WalkFault::Memory), 1),
+];
+
+/// A walk over all of the tree that may give so many entries gives what the row says.
+fn is_within(
+    rt: &impl Abort,
+    alloc: Global,
+    stock: &Stock,
+    top: &Digest,
+    row: &Room,
+) -> Result<(), Fail> {
+    let (most, given, fetches) = row;
+    let seen = walked_within(alloc, &mut stock.shelf(alloc), top, *most)?;
+    let tally = Tally {
+        calls: 1,
+        fetches: *fetches,
+    };
+    assert!(rt; seen == (*given, tally), "{most}");
+    Ok(())
+}
+
+#[test]
+fn reads_no_more_than_it_may(rt: HostRuntime) -> Result<(), Fail> {
+    let alloc = rt.alloc();
+    let mut stock = Stock::new(alloc);
+    let top = put_130_keys(alloc, &mut stock)?;
+    for row in &ROOMS {
+        is_within(&rt, alloc, &stock, &top, row)?;
     }
     Ok(())
 }
