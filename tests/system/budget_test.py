@@ -39,6 +39,21 @@ WORKS = [
     (b"node(52.49999999999,13.40000004,52.6,13.5);out ids;", 803),
 ]
 
+# Nodes whose tree of objects has four leaves, and the work of queries that read all of them: a step for each filter, one for
+# each node as a candidate and one as it is written, for two of them one more as it is read; one for each statement, and one for
+# the node that is printed, which has three bytes.
+MANY = "".join(f"n{number} Ta=1 x0 y0\n" for number in range(1, 194))
+READING = [
+    (b"node;out ids 1;", 38903),
+    (b"nwr[a];out ids 1;", 58303),
+    (b"node[a=1];out ids 1;", 39003),
+    (b"node(0,0,0.01,0.01);out ids 1;", 58303),
+]
+
+# A box that goes round the earth to the column that it begins in: cells on both sides of the 180th meridian, one of them twice.
+DATELINE = "n5 x180 y0\nn6 x-180 y0\nn7 x0 y0\n"
+ROUND_THE_EARTH = [(b"node(-1,0.05,1,0.04);out ids;", 1509)]
+
 GREATEST = (1 << 64) - 1
 
 # A set in which each hundred nodes are in a way, and the most work that a query over it may take.
@@ -162,13 +177,13 @@ def check_within(tally, file):
 
 
 class Files:
-    """A query over the four objects, its answer and its proof, in files."""
+    """A query over a set, its answer and its proof, in files."""
 
-    def __init__(self, room, query):
+    def __init__(self, room, query, file=FOUR):
         self.room = Path(room)
         self.query, self.answer, self.proof = (self.room / name for name in ("query", "answer", "proof"))
         self.query.write_bytes(query)
-        outcome = run([PROGRAM, "prove", FOUR, self.query, self.answer, self.proof])
+        outcome = run([PROGRAM, "prove", file, self.query, self.answer, self.proof])
         assert outcome.status == 0, outcome
         self.root = outcome.stdout.strip()
 
@@ -207,6 +222,21 @@ def check_verdicts(tally):
                 ("a proof that is none", files.checked("--max-work", 0, proof=files.room / "none"), DEVICE),
             ]:
                 tally.check(f"check {query}: {name}", outcome == want, outcome)
+
+
+def check_every_budget(tally):
+    """However far an evaluation comes before its budget ends it, what is told is the work, and never memory."""
+    for text, works in [(FOUR.read_text(encoding="utf-8"), WORKS), (MANY, READING), (DATELINE, ROUND_THE_EARTH)]:
+        with tempfile.TemporaryDirectory() as room:
+            file = Path(room) / "set.opl"
+            file.write_text(text, encoding="utf-8")
+            for query, work in works:
+                files = Files(room, query, file)
+                for budget in [*range(0, work, work // 40), work - 1]:
+                    outcome = files.checked("--max-work", budget)
+                    tally.check(f"{query} within {budget}", outcome == NO_WORK, outcome)
+                outcome = files.checked("--max-work", work)
+                tally.check(f"{query} within its work", outcome == YES, outcome)
 
 
 def check_fetch(tally):
@@ -263,6 +293,7 @@ def main():
     check_sides(tally)
     check_nothing(tally)
     check_verdicts(tally)
+    check_every_budget(tally)
     check_fetch(tally)
     check_relay(tally)
     with tempfile.TemporaryDirectory() as room:
