@@ -34,10 +34,6 @@ pub record IsOldTree (held : List ℕ → Type 0) (top : List ℕ) (changes : Li
   pub rising : AreRisingFrom None (keys_of_changes changes)
   pub changed_has : HasTree (changed_entries entries changes)
 
--- no different node of the set has its digest
-abbrev pub HasNoTwin : (List ℕ → Type 0) → List ℕ → Type 0
-HasNoTwin used bytes = (other : List ℕ) → used other → digest other ≡ digest bytes → other ≡ bytes
-
 -- there is such a tree
 pub record HoldsOldTree (held : List ℕ → Type 0) (top : List ℕ) (changes : List (Change Binding)) : Type 0 where
   pub tree : ℕ

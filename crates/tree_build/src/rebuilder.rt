@@ -1,20 +1,18 @@
 //! Rebuilding the tree of a changed list.
 
-ghost use Rattle.std.specs.Prelude.{◌≡◌, ◌+◌, ◌*◌, ℕ, List, IfErr, IfOk, length};
-ghost use Rattle.tree_build.specs.Rebuilding.{AreClashFree, GrownByAtMost, HasNoTwin, HoldsOldTree, IsOldTree, IsRebuilt, changed_entries, changes_of};
-ghost use Rattle.tree_build.specs.declared.rebuild_fault.RebuildFault.TheVariants.{Memory};
+ghost use Rattle.std.specs.Prelude.{◌≡◌, ◌+◌, ◌*◌, ℕ, List, IfOk, length};
+ghost use Rattle.tree_build.specs.Rebuilding.{AreClashFree, GrownByAtMost, HoldsOldTree, IsOldTree, IsRebuilt, changed_entries, changes_of};
 ghost use Rattle.tree_node.specs.Nodes.{Binding};
-ghost use Rattle.tree_node.specs.Shelves.{Stays};
+ghost use Rattle.tree_node.specs.Shelves.{SameNodes};
 ghost use Rattle.tree_node.specs.Trees.{Two, levels};
 
 use crate::change::EntryChange;
 use crate::finish::finish;
 use crate::levels::change_levels;
-use crate::old_node::{level_in, open_old};
-use crate::rebuild_fault::RebuildFault;
+use crate::old_node::{fetch_held, level_in};
 use crate::rebuilt::Rebuilt;
-use std::alloc::Global;
-use tree_node::{Digest, Shelf};
+use std::alloc::{AllocError, Global};
+use tree_node::{Digest, FixedShelf};
 
 /// The tree of the second shape over a changed list, from the nodes of the old tree and the changes (this
 /// project's trees, docs/FORMATS.md): the digest of its top, the nodes that it has and the old tree
@@ -31,33 +29,31 @@ use tree_node::{Digest, Shelf};
 ///
 /// Refused only where memory was refused, of this call or of the shelf. Then nothing is told, and the
 /// shelf may have given some nodes; a later call starts anew.
-pub fn rebuild<'a, S: Shelf<'a>>(
+pub fn rebuild<'a, S: FixedShelf<'a>>(
     alloc: Global,
     shelf: &mut S,
     top: &Digest,
     changes: &'a [EntryChange],
-) -> Result<Rebuilt, RebuildFault>
-    // What is held stays held, on a fixed shelf just that, and what was used stays used.
-    ensures stays { Stays S.is_fixed (S.holds shelf.old) (S.holds shelf.new) }
+) -> Result<Rebuilt, AllocError>
+    requires { HoldsOldTree (S.holds shelf.old) top.now.0 (changes_of changes.now) }
+    // The held nodes never change, and what was used stays used.
+    ensures stays { SameNodes (S.holds shelf.old) (S.holds shelf.new) }
     ensures grows { (bytes : List ℕ) → S.used shelf.old bytes → S.used shelf.new bytes }
     // It gives the tree of the changed entries: its top, what was added and what is gone.
     ensures rebuilt { (tree : ℕ) (entries : List Binding)
-        → IsOldTree (HasNoTwin (S.used shelf.new)) top.now.0 (changes_of changes.now) tree entries
+        → IsOldTree (S.holds shelf.new) top.now.0 (changes_of changes.now) tree entries
         → let old = levels Two tree entries in
         let new = levels Two tree (changed_entries entries (changes_of changes.now)) in
         IfOk result (λ rebuilt. IsRebuilt old new rebuilt) }
     // Beyond the nodes that are gone it reads at most one node a change and level of the old tree.
     ensures used { (tree : ℕ) (entries : List Binding)
-        → IsOldTree (HasNoTwin (S.used shelf.new)) top.now.0 (changes_of changes.now) tree entries
+        → IsOldTree (S.holds shelf.new) top.now.0 (changes_of changes.now) tree entries
         → let old = levels Two tree entries in
         let new = levels Two tree (changed_entries entries (changes_of changes.now)) in
         AreClashFree old new
         → IfOk result (λ rebuilt. GrownByAtMost
         (length rebuilt.gone.items + length changes.now * length old)
         (S.used shelf.old) (S.used shelf.new)) }
-    // Where the shelf holds the old tree, memory alone refuses it.
-    ensures served { HoldsOldTree (S.holds shelf.old) top.now.0 (changes_of changes.now)
-        → IfErr result (λ fault. fault ≡ Memory) }
 {
     if changes.is_empty() {
         return Ok(Rebuilt {
@@ -66,7 +62,7 @@ pub fn rebuild<'a, S: Shelf<'a>>(
             gone: Vec::new(alloc),
         });
     }
-    let old = open_old(shelf, top)?;
+    let old = fetch_held(shelf, top)?;
     let tree = old.node.tree();
     let edited = change_levels(alloc, shelf, tree, top, level_in(&old.node), changes)?;
     finish(alloc, shelf, tree, top, edited)

@@ -1,9 +1,8 @@
 //! Coming down to the top of a tree that lost levels.
 
-ghost use Rattle.std.specs.Prelude.{◌≡◌, ◌⊎◌, ◌∷◌, ◌++◌, ◌≤◌, ◌==◌, [], ℕ, List, IfErr, IfOk, OnOk, if◌then◌else◌, length};
+ghost use Rattle.std.specs.Prelude.{◌≡◌, ◌⊎◌, ◌∷◌, ◌++◌, ◌≤◌, ◌==◌, [], ℕ, List, IfOk, OnOk, if◌then◌else◌, length};
 ghost use Rattle.tree_build.specs.Changing.{Change};
-ghost use Rattle.tree_build.specs.Rebuilding.{HasNoTwin, changed_entries, digests_of};
-ghost use Rattle.tree_build.specs.declared.rebuild_fault.RebuildFault.TheVariants.{Memory};
+ghost use Rattle.tree_build.specs.Rebuilding.{changed_entries, digests_of};
 ghost use Rattle.tree_build.specs.internal.Edits.{IsNewNode};
 ghost use Rattle.tree_build.specs.internal.Holding.{HoldsNode, IsHeld};
 ghost use Rattle.tree_build.specs.internal.Shrinking.{CanShrink, HasShrunk, IsOnlyChild, IsReadBy};
@@ -11,14 +10,13 @@ ghost use Rattle.tree_build.specs.internal.Towers.{tower};
 ghost use Rattle.tree_build.specs.declared.piece.NewPiece.{NewPiece as New};
 ghost use Rattle.tree_node.specs.Nodes.{Binding, IsNode, Node, spelling};
 ghost use Rattle.tree_node.specs.NodeRefs.{node_read};
-ghost use Rattle.tree_node.specs.Shelves.{Stays};
+ghost use Rattle.tree_node.specs.Shelves.{SameNodes};
 ghost use Rattle.tree_node.specs.Trees.{Two};
 
-use crate::old_node::open_old;
-use crate::rebuild_fault::RebuildFault;
+use crate::old_node::fetch_held;
 use crate::step::LevelEdit;
 use std::alloc::AllocError;
-use tree_node::{Digest, NodeRef, Shelf};
+use tree_node::{Digest, FixedShelf, NodeRef};
 
 /// The top of a new tree.
 #[derive(Clone, Copy)]
@@ -29,40 +27,34 @@ pub(crate) struct Top {
 
 /// The top of the new tree: from the one node of the last level down to the first that is a leaf or has
 /// two children. The nodes that it goes by and that aren't new are told as gone.
-pub(crate) fn shrink_top<'a, 'c, S: Shelf<'a>>(
+pub(crate) fn shrink_top<'a, 'c, S: FixedShelf<'a>>(
     shelf: &mut S,
     edits: &[LevelEdit<'c>],
     digest: &Digest,
     gone: &mut Vec<Digest>,
-) -> Result<Top, RebuildFault>
-    requires { 1 ≤ length edits.now }
-    ensures stays { Stays S.is_fixed (S.holds shelf.old) (S.holds shelf.new) }
+) -> Result<Top, AllocError>
+    requires { (tree : ℕ) × (top : List ℕ) × (changes : List (Change Binding))
+        × (entries : List Binding) × (1 ≤ length edits.now)
+        × CanShrink (S.holds shelf.old) tree top changes entries edits.now digest.now.0 }
+    ensures stays { SameNodes (S.holds shelf.old) (S.holds shelf.new) }
     ensures grows { (bytes : List ℕ) → S.used shelf.old bytes → S.used shelf.new bytes }
     ensures settled { (tree : ℕ) (top : List ℕ) (changes : List (Change Binding))
         (entries : List Binding)
-        → CanShrink (HasNoTwin (S.used shelf.new)) tree top changes entries edits.now digest.now.0
+        → CanShrink (S.holds shelf.new) tree top changes entries edits.now digest.now.0
         → IfOk result (λ found. HasShrunk (tower Two tree (changed_entries entries changes))
         edits.now (digests_of gone.old.items) (digests_of gone.new.items)
         found.digest.0 found.level) }
     // It reads just the nodes that aren't new on its way down.
     ensures used { (tree : ℕ) (top : List ℕ) (changes : List (Change Binding))
         (entries : List Binding)
-        → CanShrink (HasNoTwin (S.used shelf.new)) tree top changes entries edits.now digest.now.0
+        → CanShrink (S.holds shelf.new) tree top changes entries edits.now digest.now.0
         → IfOk result (λ found. (bytes : List ℕ) → S.used shelf.new bytes
         → S.used shelf.old bytes ⊎ IsReadBy (tower Two tree (changed_entries entries changes))
         edits.now found.level bytes) }
-    // Where the shelf holds the old tree, memory alone refuses it.
-    ensures served { (tree : ℕ) (top : List ℕ) (changes : List (Change Binding))
-        (entries : List Binding)
-        → CanShrink (S.holds shelf.old) tree top changes entries edits.now digest.now.0
-        → IfErr result (λ fault. fault ≡ Memory) }
 {
     let mut level = edits.len() - 1;
     let mut top = *digest;
     'down: while let Some(below) = only_child_at(shelf, &edits[level], &top)? {
-        if level == 0 {
-            return Err(RebuildFault::NoTree);
-        }
         push_stayed(&edits[level], &top, gone)?;
         top = below;
         level -= 1;
@@ -86,29 +78,28 @@ fn push_stayed(
 }
 
 /// The digest of the only child of the one node of a level, which has this digest.
-fn only_child_at<'a, 'c, S: Shelf<'a>>(
+fn only_child_at<'a, 'c, S: FixedShelf<'a>>(
     shelf: &mut S,
     edit: &LevelEdit<'c>,
     digest: &Digest,
-) -> Result<Option<Digest>, RebuildFault>
-    ensures stays { Stays S.is_fixed (S.holds shelf.old) (S.holds shelf.new) }
+) -> Result<Option<Digest>, AllocError>
+    requires { edit.now.news.items ≡ [] → HoldsNode (S.holds shelf.old) digest.now.0 }
+    ensures stays { SameNodes (S.holds shelf.old) (S.holds shelf.new) }
     ensures grows { (bytes : List ℕ) → S.used shelf.old bytes → S.used shelf.new bytes }
     ensures child { (node : Node) → IsNode node
-        → (edit.now.news.items ≡ [] → IsHeld (HasNoTwin (S.used shelf.new)) digest.now.0 node)
+        → (edit.now.news.items ≡ [] → IsHeld (S.holds shelf.new) digest.now.0 node)
         → ((new : New) (others : List New) → edit.now.news.items ≡ new ∷ others
         → IsNewNode new node)
         → IfOk result (IsOnlyChild node) }
     ensures used { (node : Node)
-        → (edit.now.news.items ≡ [] → IsHeld (HasNoTwin (S.used shelf.new)) digest.now.0 node)
+        → (edit.now.news.items ≡ [] → IsHeld (S.holds shelf.new) digest.now.0 node)
         → (bytes : List ℕ) → S.used shelf.new bytes
         → S.used shelf.old bytes ⊎ ((edit.now.news.items ≡ []) × (bytes ≡ spelling node)) }
-    ensures served { (edit.now.news.items ≡ [] → HoldsNode (S.holds shelf.old) digest.now.0)
-        → IfErr result (λ fault. fault ≡ Memory) }
 {
     match edit.news.first() {
         Some(new) => Ok(only_child(new.node.bytes.as_slice())),
         None => {
-            let opened = open_old(shelf, digest)?;
+            let opened = fetch_held(shelf, digest)?;
             Ok(only_child(opened.old.bytes))
         }
     }
