@@ -39,7 +39,7 @@ WORKS = [
     (b"node(52.49999999999,13.40000004,52.6,13.5);out ids;", 803),
 ]
 
-# Nodes whose tree of objects has four leaves, and the work of queries that read all of them: a step for each filter, one for
+# Nodes whose tree of objects has several leaves, and the work of queries that read all of them: a step for each filter, one for
 # each node as a candidate and one as it is written, for two of them one more as it is read; one for each statement, and one for
 # the node that is printed, which has three bytes.
 MANY = "".join(f"n{number} Ta=1 x0 y0\n" for number in range(1, 194))
