@@ -16,7 +16,7 @@ use crate::held_tree::entry_count;
 use crate::listing::entries_of;
 use osm_model::ObjectSet;
 use std::alloc::{AllocError, Global};
-use tree_build::{EntryChange, Rebuilt, rebuild};
+use tree_build::{EntryChange, RebuildFault, Rebuilt, rebuild};
 use tree_node::{Digest, ENTRY_LIMIT, NewNode, Stock, Tree};
 
 /// What changing the four trees gives.
@@ -123,7 +123,21 @@ fn change_tree(
         return Err(ApplyFault::TooMany);
     };
     let mut shelf = stock.shelf(alloc);
-    Ok(rebuild(alloc, &mut shelf, top, &changes)?)
+    match rebuild(alloc, &mut shelf, top, &changes) {
+        Ok(rebuilt) => Ok(rebuilt),
+        Err(fault) => Err(refusal(fault)),
+    }
+}
+
+/// What refuses a tree that the stock holds.
+fn refusal(fault: RebuildFault) -> ApplyFault
+    requires { fault ≡ RebuildFault.Memory }
+    ensures { result ≡ ApplyFault.Memory }
+{
+    match fault {
+        RebuildFault::Memory => ApplyFault::Memory,
+        RebuildFault::Missing | RebuildFault::NoTree => unreachable!(),
+    }
 }
 
 /// How the entries of a tree change, by rising key; none where they would be more than 2^29.

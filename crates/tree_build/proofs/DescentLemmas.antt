@@ -47,7 +47,7 @@ pub all_parts : {X : Type 0} (P : X → Type 0) (xs ys : List X) → AllByRecurs
 all_parts P [] ys all = (tt, all)
 all_parts P (x ∷ xs) ys all = let rest = all_parts P xs ys all.1 in ((all.0, rest.0), rest.1)
 
-at_front : {X : Type 0} (xs : List X) (x : X) (ys : List X) (d : X) → get_or (xs ++ x ∷ ys) (length xs) d ≡ x
+pub at_front : {X : Type 0} (xs : List X) (x : X) (ys : List X) (d : X) → get_or (xs ++ x ∷ ys) (length xs) d ≡ x
 at_front [] x ys d = refl
 at_front (z ∷ xs) x ys d = at_front xs x ys d
 

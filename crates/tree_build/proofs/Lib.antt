@@ -13,6 +13,7 @@ pub mod DifferLemmas
 pub mod DifferSets
 pub mod ErrLemmas
 pub mod FinishLemmas
+pub mod FitChecks
 pub mod FitLemmas
 pub mod FoundLemmas
 pub mod GoneLemmas

@@ -38,6 +38,10 @@ each_append Stands [] (y ∷ ys) more others one two = absurd one
 each_append Stands (x ∷ xs) [] more others one two = absurd one
 each_append Stands (x ∷ xs) (y ∷ ys) more others one two = (one.0, each_append Stands xs ys more others one.1 two)
 
+-- a part of items that fit, by what they are, fits
+pub fit_meant : {T M : Type 0} (meaning : T → M) (Fit : List M → Type 0) → ((xs ys : List M) → Fit (xs ++ ys) → Fit xs × Fit ys) → (xs ys : List T) → Fit (map meaning (xs ++ ys)) → Fit (map meaning xs) × Fit (map meaning ys)
+fit_meant meaning Fit parts xs ys fit = parts (map meaning xs) (map meaning ys) (subst Fit (map-append meaning xs ys) fit)
+
 -- nothing has come
 pub come_none : (news : List NewPiece) → HaveCome news news []
 come_none news = record { more = []; whole = sym (append-nil news); stand = tt }

@@ -2,7 +2,7 @@
 use Rattle.std.proofs.Common.{inl, inr, ◌≡◌, ℕ, ◌+◌, ◌-◌, ◌<◌, ◌≤◌, eqb, eqb-true, false, List, [], ◌∷◌, length, true, refl, sym, ap, subst, arith}
 use Rattle.std.specs.List.{AllByRecursion}
 use Rattle.tree_node.specs.Nodes.{Binding, Node, level_of, spelling, tree_of}
-use Rattle.tree_node.specs.Trees.{Two, level_at, levels, no_node, top_of}
+use Rattle.tree_node.specs.Trees.{IsNodeOf, Two, level_at, levels, no_node, top_of}
 use Rattle.tree_node.proofs.shared.TreeLaws.{whole}
 use Rattle.tree_node.proofs.shared.TreeParts.{kind_at}
 use Rattle.tree_build.specs.Changing.{Change}
@@ -13,6 +13,7 @@ use Rattle.tree_build.specs.internal.Holding.{IsHeld}
 use Rattle.tree_build.proofs.DescentLemmas.{all_parts, lone, sought_level, sought_top}
 use Rattle.tree_build.specs.internal.Weaving.{IsIn}
 use Rattle.tree_build.proofs.LastLemmas.{last_one}
+use Rattle.tree_build.proofs.SeekStates.{sought_among}
 use Rattle.tree_build.proofs.TreeEdits.{held_of}
 use Rattle.tree_build.proofs.WeaveLemmas.{in_back}
 
@@ -27,6 +28,7 @@ pub record TopSays (held : List ℕ → Type 0) (top : List ℕ) (tree : ℕ) (o
   pub tree_is : tree_of node ≡ tree
   pub level_is : level_of node + 1 ≡ length of
   pub spelled : spelling node ≡ top_of of
+  pub among : IsNodeOf of (spelling node)
 
 pub top_says : (held : List ℕ → Type 0) (top : List ℕ) (changes : List (Change Binding)) (tree : ℕ) (entries : List Binding) → IsOldTree held top changes tree entries → TopSays held top tree (levels Two tree entries)
 unfolding levels
@@ -38,6 +40,7 @@ top_says held top changes tree entries is =
     record {
       node = here.node;
       is_held = here.is_held;
+      among = sought_among (levels Two tree entries) last [] true here.node true lt here.at;
       tree_is = (all_parts (λ (n : Node). tree_of n ≡ tree) here.at.front (here.node ∷ here.at.back) kinds).1.0;
       level_is = omega (arith, sought_level held top tree entries (held_of held top changes tree entries is) last lt [] true here.node true here.at);
       spelled =

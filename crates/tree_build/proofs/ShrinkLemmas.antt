@@ -3,7 +3,7 @@ use Rattle.std.proofs.Common.{◌≡◌, ℕ, zero, suc, ◌+◌, ◌-◌, ◌<�
 use Rattle.std.specs.List.{flat_map, AllByRecursion}
 use Rattle.std.proofs.lemmas.List.{append-nil, map-append, length-map}
 use Rattle.tree_node.specs.Nodes.{Binding, IsNode, Leaf, Link, Node, spelling}
-use Rattle.tree_node.specs.Trees.{Two, ends_by, is_marked_entry, pieces, level_at, level_over, levels, link_to, links_in, no_node}
+use Rattle.tree_node.specs.Trees.{IsNodeOf, Two, ends_by, is_marked_entry, pieces, level_at, level_over, levels, link_to, links_in, no_node}
 use Rattle.tree_node.specs.declared.digest.Digest.{Digest}
 use Rattle.tree_node.proofs.shared.TreeLaws.{over_joined}
 use Rattle.tree_build.specs.Changing.{Change}
@@ -19,7 +19,7 @@ use Rattle.tree_build.specs.internal.Weaving.{IsIn, Woven}
 use Rattle.tree_build.specs.declared.piece.NewPiece.{NewPiece}
 use Rattle.tree_build.specs.declared.step.LevelEdit.{LevelEdit}
 use Rattle.tree_build.proofs.DescentLemmas.{lone}
-use Rattle.tree_build.proofs.OldLevels.{tower_first, tower_nodes}
+use Rattle.tree_build.proofs.OldLevels.{old_few, tower_first, tower_nodes}
 use Rattle.tree_build.proofs.TreeEdits.{old_then}
 use Rattle.tree_build.proofs.WeaveLemmas.{in_woven, woven_first, woven_second}
 
@@ -178,10 +178,14 @@ module _ (held : List ℕ → Type 0) (top : List ℕ) (changes : List (Change B
   pub lone_is : level ≤ 63 → IsNode node
   lone_is le = (subst (λ (ns : List Node). AllByRecursion IsNode ns) alone (tower_nodes tree (changed_entries entries changes) is.changed_has is.is_tree level le)).0
 
+  -- it is a node of the old tree, if it isn't new
+  pub lone_among : edit.news.items ≡ [] → IsNodeOf (levels Two tree entries) (spelling node)
+  lone_among none_new =
+      let found = in_place node (level_at (levels Two tree entries) level) no_node (in_old none_new) in (level, found.place, (lt, found.within, ap spelling (sym found.at)))
+
   pub lone_held : level ≤ 63 → edit.news.items ≡ [] → (key : List ℕ) → key ≡ node_digest node → IsHeld held key node
   lone_held le none_new key same =
-      let found = in_place node (level_at (levels Two tree entries) level) no_node (in_old none_new) in
-      record { is = lone_is le; holds = is.holds (spelling node) (level, found.place, (lt, found.within, ap spelling (sym found.at))); digest_is = same }
+      record { is = lone_is le; holds = is.holds (spelling node) (lone_among none_new); digest_is = same }
 
   pub lone_new : (new : NewPiece) (others : List NewPiece) → edit.news.items ≡ new ∷ others → IsNewNode new node
   lone_new new others e = by edits.came (subst (λ (ns : List NewPiece). Each IsNewNode ns edits.came) e edits.news_stand) edits.is
@@ -192,6 +196,35 @@ module _ (held : List ℕ → Type 0) (top : List ℕ) (changes : List (Change B
         | inl it ↦ subst (λ (m : Node). IsNewNode new m) it all.0
         | inr never ↦ absurd never
       ]
+
+-- the one node of the level in hand
+module _ (held : List ℕ → Type 0) (tree : ℕ) (top : List ℕ) (changes : List (Change Binding)) (entries : List Binding) (edits : List LevelEdit) (digest : List ℕ) (can : CanShrink held tree top changes entries edits digest)
+    (gone later : List (List ℕ)) (here : List ℕ) (level : ℕ) (within : level < length edits) (so : IsSettling tree (changed_entries entries changes) edits gone later here level) (edit : LevelEdit) (edit_is : edit ≡ get_or edits level edit) where
+  abbrev hand : Node
+  hand = settling_node tree (changed_entries entries changes) edits gone later here level so
+
+  edit_here : IsEdit (level_at (levels Two tree entries) level) (tower Two tree (changed_entries entries changes) level) edit
+  edit_here =
+      let zero_level : 0 + level ≡ level = omega arith in
+      subst (λ n. IsEdit (level_at (levels Two tree entries) n) (tower Two tree (changed_entries entries changes) n) edit) zero_level (edit_at (levels Two tree entries) (tower Two tree (changed_entries entries changes)) 0 level edits edit can.are within edit_is)
+
+  hand_few : level ≤ 63
+  hand_few = omega (arith, within, can.high, old_few tree entries can.is.has)
+
+  hand_lone : tower Two tree (changed_entries entries changes) level ≡ hand ∷ []
+  hand_lone = settling_lone tree (changed_entries entries changes) edits gone later here level so
+
+  pub hand_is : IsNode hand
+  hand_is = lone_is held top changes tree entries can.is level (omega (arith, within, can.high)) edit edit_here hand hand_lone hand_few
+
+  pub hand_held : edit.news.items ≡ [] → IsHeld held here hand
+  hand_held none_new = lone_held held top changes tree entries can.is level (omega (arith, within, can.high)) edit edit_here hand hand_lone hand_few none_new here so.top_is
+
+  pub hand_among : edit.news.items ≡ [] → IsNodeOf (levels Two tree entries) (spelling hand)
+  hand_among none_new = lone_among held top changes tree entries can.is level (omega (arith, within, can.high)) edit edit_here hand hand_lone none_new
+
+  pub hand_new : (new : NewPiece) (others : List NewPiece) → edit.news.items ≡ new ∷ others → IsNewNode new hand
+  hand_new = lone_new held top changes tree entries can.is level (omega (arith, within, can.high)) edit edit_here hand hand_lone
 
 -- what can shrink can still, where more is held
 pub shrink_then : (old new : List ℕ → Type 0) (tree : ℕ) (top : List ℕ) (changes : List (Change Binding)) (entries : List Binding) (edits : List LevelEdit) (digest : List ℕ) → ((x : List ℕ) → old x → new x)

@@ -1,5 +1,5 @@
 -- A turn of a step's loop, from what its calls give to the next state.
-use Rattle.std.proofs.Common.{◌≡◌, ℕ, ◌+◌, ◌-◌, ◌<◌, ◌≤◌, List, [], ◌∷◌, ◌++◌, length, map, take, drop, inl, inr, Bool, true, false, ◌≢◌, IsTrue, Some, None, refl, sym, ap, subst, ◌∙◌, length-append, arith}
+use Rattle.std.proofs.Common.{◌≡◌, ℕ, ◌+◌, ◌-◌, ◌<◌, ◌≤◌, ◌⊎◌, List, [], ◌∷◌, ◌++◌, length, map, take, drop, inl, inr, Bool, true, false, ◌≢◌, IsTrue, Some, None, refl, sym, ap, subst, ◌∙◌, arith}
 use Rattle.std.specs.List.{flat_map, slice_get, AllByRecursion}
 use Rattle.std.specs.Borrow.{Bor}
 use Rattle.std.proofs.lemmas.List.{drop-drop, length-drop, map-append, take-append-drop, take_more}
@@ -146,6 +146,15 @@ module _ {T X : Type 0} (meaning : T → X) (key : X → List ℕ) (ends : ℕ �
             step_taken key ends items over Fit nodes (changes_meant meaning cs) can parts olds news (map meaning pending) (changes_meant meaning (drop done cs)) f.others node f.behind f.at is_last _ _ split old stands (map meaning next_pending) after gone;
       })
 
+  -- fewer old nodes were opened than a level may have
+  pub opened_room : (parts : (xs ys : List X) → Fit (xs ++ ys) → Fit xs × Fit ys) (olds : List OldNode) (news : List NewPiece) (pending : List T) (done : ℕ)
+      → StepState key ends items over Fit nodes (changes_meant meaning cs) olds news (map meaning pending) (changes_meant meaning (drop done cs))
+      → (wanted : Bor (List ℕ) × Bool) → IsWanted olds pending (take (length cs - done) (drop done cs)) (Some wanted)
+      → (tree : List (List Node)) (level : ℕ) → level_at tree level ≡ nodes → (node : Node) (is_last : Bool) → IsSoughtNode tree level wanted.0.now wanted.1 node is_last → length olds < 536870912
+  opened_room parts olds news pending done state wanted wants tree level same node is_last is =
+      let f = found parts olds news pending done state (take (length cs - done) (drop done cs)) (rest_is cs done) wanted wants tree level same node is_last is in
+      omega (arith, can.level.few, step_room key ends items over Fit nodes (changes_meant meaning cs) can olds news (map meaning pending) (changes_meant meaning (drop done cs)) f.others (node ∷ f.behind) f.at (omega arith))
+
   -- ---- at the start, and at the end
 
   pub start_state : 1 ≤ length nodes → (olds : List OldNode) (news : List NewPiece) (pending : List T) → olds ≡ [] → news ≡ [] → pending ≡ []
@@ -182,9 +191,6 @@ module _ {T X : Type 0} (meaning : T → X) (key : X → List ℕ) (ends : ℕ �
     news_stand = subst (λ (ns : List NewPiece). Each IsNewNode ns is.came) (sym news_are) is.news_stand;
   }
 
-  pub some_of : (olds : List OldNode) (news : List NewPiece) → IsDone key ends items over Fit nodes (changes_meant meaning cs) can olds news → (edit : LevelEdit) → edit.olds.items ≡ olds → 1 ≤ length edit.olds.items
-  some_of olds news is edit same = omega (arith, is.some, ap (length {A = OldNode}) same)
-
   pub went_then : (olds : List OldNode) (news : List NewPiece) (pending : List T) (next : ℕ) (here : List (ItemChange T)) (node : Node) (is_last : Bool) (old : OldNode) → IsTurn olds news pending next here node is_last old
       → (next_olds : List OldNode) (after : List NewPiece) (next_pending : List T) → next_olds ≡ olds ++ old ∷ []
       → HaveGoneOn ends over is_last (map meaning pending) news (changed key (items node) (changes_meant meaning here)) (map meaning next_pending) after
@@ -192,8 +198,14 @@ module _ {T X : Type 0} (meaning : T → X) (key : X → List ℕ) (ends : ℕ �
   went_then olds news pending next here node is_last old t next_olds after next_pending same gone =
       subst (λ (os : List OldNode). StepState key ends items over Fit nodes (changes_meant meaning cs) os after (map meaning next_pending) (changes_meant meaning (drop next cs))) (sym same) (t.then_state next_pending after gone)
 
-  pub falls : (olds next_olds : List OldNode) (old : OldNode) → length olds < length nodes → next_olds ≡ olds ++ old ∷ [] → 536870912 - length next_olds < 536870912 - length olds
-  falls olds next_olds old room same = omega (arith, room, can.level.few, ap (length {A = OldNode}) same, length-append olds (old ∷ []))
+-- where there are changes, an old node was opened
+pub opened_some : {T : Type 0} (cs : List (ItemChange T)) (olds : List OldNode) (pending : List T) (done : ℕ) → 1 ≤ length cs → (1 ≤ length olds) ⊎ ((done ≡ 0) × (pending ≡ []))
+    → IsWanted olds pending (take (length cs - done) (drop done cs)) None → (edit : LevelEdit) → edit.olds.items ≡ olds → 1 ≤ length edit.olds.items
+opened_some {T} cs olds pending done some (inl opened) wants edit same = omega (arith, opened, ap (length {A = OldNode}) same)
+opened_some {T} cs olds pending done some (inr (none, empty)) wants edit same = elim wants [
+  | inl both ↦ absurd (omega (arith, some, ap (length {A = ItemChange T}) (ap (λ n. drop n cs) (sym none) ∙ sym (rest_is cs done) ∙ both.1)))
+  | inr never ↦ absurd (never.0 empty)
+]
 
 pub within_rest : {X : Type 0} (xs : List X) (done count : ℕ) → done ≤ length xs → count ≤ length (take (length xs - done) (drop done xs)) → done + count ≤ length xs
 within_rest {X} xs done count within few = omega (arith, few, ap (length {A = X}) (rest_is xs done), length-drop done xs)

@@ -1,3 +1,4 @@
 -- Lemmas for the crates above.
 pub mod ChangedTrees
+pub mod OldTrees
 pub mod PieceCuts

@@ -1,9 +1,10 @@
 //! The new tree, from how the levels of the old one change.
 
 ghost use Rattle.std.specs.List.{AllByRecursion};
-ghost use Rattle.std.specs.Prelude.{◌≡◌, ◌⊎◌, ◌<◌, ◌≤◌, ℕ, List, [], IfOk, OnOk, length};
+ghost use Rattle.std.specs.Prelude.{◌≡◌, ◌⊎◌, ◌<◌, ◌≤◌, ℕ, List, [], IfErr, IfOk, OnOk, length};
 ghost use Rattle.tree_build.specs.Changing.{Change};
 ghost use Rattle.tree_build.specs.Rebuilding.{IsRebuilt, changed_entries, digests_of, nodes_of};
+ghost use Rattle.tree_build.specs.StrangeShelves.{HasNoTwin, IsRefusedFor};
 ghost use Rattle.tree_build.specs.internal.Edits.{IsNewNode, StandForNodes};
 ghost use Rattle.tree_build.specs.declared.piece.NewPiece.{NewPiece as New};
 ghost use Rattle.tree_build.specs.internal.FoundTops.{CanFindTop, HaveGained, IsFound, IsTopRead, TopStays};
@@ -12,8 +13,8 @@ ghost use Rattle.tree_build.specs.internal.TreeEdits.{AreEdits, HasTreeEdit};
 ghost use Rattle.tree_build.specs.internal.TreeTelling.{HaveTold, IsTold};
 ghost use Rattle.tree_node.specs.NodeRefs.{number_of};
 ghost use Rattle.tree_node.specs.Nodes.{Binding, IsNode, Leaf, Node};
-ghost use Rattle.tree_node.specs.Shelves.{SameNodes};
-ghost use Rattle.tree_node.specs.Trees.{Two, level_at, levels};
+ghost use Rattle.tree_node.specs.Shelves.{IsClashFree, Stays};
+ghost use Rattle.tree_node.specs.Trees.{IsNodeOf, Two, level_at, levels};
 
 use crate::grow_top::grow_top;
 use crate::leaf_item::LeafItem;
@@ -21,36 +22,43 @@ use crate::level_diff::{push_gone_digests, push_level_diff};
 use crate::levels::TreeEdit;
 use crate::open_piece::make_node;
 use crate::piece::NewPiece;
+use crate::rebuild_fault::RebuildFault;
 use crate::rebuilt::Rebuilt;
 use crate::shrink_top::{Top, shrink_top};
 use crate::step::LevelEdit;
 use std::alloc::{AllocError, Global};
-use tree_node::{Digest, FixedShelf, NewNode, Tree};
+use tree_node::{Digest, NewNode, Shelf, Tree};
 
 /// The new tree's top, and what it has gained and lost.
-pub(crate) fn finish<'a, 'c, S: FixedShelf<'a>>(
+pub(crate) fn finish<'a, 'c, S: Shelf<'a>>(
     alloc: Global,
     shelf: &mut S,
     tree: Tree,
     old_top: &Digest,
     edited: TreeEdit<'c>,
-) -> Result<Rebuilt, AllocError>
-    requires { (changes : List (Change Binding)) × (entries : List Binding)
-        × HasTreeEdit (S.holds shelf.old) old_top.now.0 changes (number_of tree) entries edited }
-    ensures stays { SameNodes (S.holds shelf.old) (S.holds shelf.new) }
+) -> Result<Rebuilt, RebuildFault>
+    requires some { 1 ≤ length edited.edits.items }
+    requires few { length edited.edits.items ≤ 256 }
+    ensures stays { Stays S.is_fixed (S.holds shelf.old) (S.holds shelf.new) }
     ensures grows { (bytes : List ℕ) → S.used shelf.old bytes → S.used shelf.new bytes }
     ensures rebuilt { (changes : List (Change Binding)) (entries : List Binding)
-        → HasTreeEdit (S.holds shelf.new) old_top.now.0 changes (number_of tree) entries
+        → HasTreeEdit (HasNoTwin (S.used shelf.new)) old_top.now.0 changes (number_of tree) entries
         edited.entry
+        → IsClashFree (IsNodeOf (levels Two (number_of tree) entries))
         → IfOk result (IsRebuilt (levels Two (number_of tree) entries)
         (levels Two (number_of tree) (changed_entries entries changes))) }
     // It reads just nodes that are gone, and, where the tree loses levels, the new top.
     ensures used { (changes : List (Change Binding)) (entries : List Binding)
-        → HasTreeEdit (S.holds shelf.new) old_top.now.0 changes (number_of tree) entries
+        → HasTreeEdit (HasNoTwin (S.used shelf.new)) old_top.now.0 changes (number_of tree) entries
         edited.entry
         → IfOk result (λ rebuilt. (bytes : List ℕ) → S.used shelf.new bytes
         → S.used shelf.old bytes ⊎ IsTopRead (levels Two (number_of tree) entries)
         (levels Two (number_of tree) (changed_entries entries changes)) bytes) }
+    // It is refused for memory, or the shelf doesn't hold a node of the old tree.
+    ensures told { (changes : List (Change Binding)) (entries : List Binding)
+        → HasTreeEdit (HasNoTwin (S.used shelf.new)) old_top.now.0 changes (number_of tree) entries
+        edited.entry
+        → IfErr result (IsRefusedFor (levels Two (number_of tree) entries) (S.holds shelf.new)) }
 {
     let TreeEdit { mut edits, stays } = edited;
     let mut added = Vec::new(alloc);
@@ -68,7 +76,7 @@ pub(crate) fn finish<'a, 'c, S: FixedShelf<'a>>(
 /// The top of the new tree over these levels. It is the old one, where the last of them is as it was. Else
 /// the last has all nodes of its level as new ones: the levels above it are made, or the tree loses levels.
 /// Without entries it gets the leaf without entries.
-fn find_top<'a, 'c, S: FixedShelf<'a>>(
+fn find_top<'a, 'c, S: Shelf<'a>>(
     alloc: Global,
     shelf: &mut S,
     tree: Tree,
@@ -76,13 +84,13 @@ fn find_top<'a, 'c, S: FixedShelf<'a>>(
     edits: &mut Vec<LevelEdit<'c>>,
     added: &mut Vec<NewNode>,
     gone: &mut Vec<Digest>,
-) -> Result<Top, AllocError>
-    requires { (top : List ℕ) × (changes : List (Change Binding)) × (entries : List Binding)
-        × CanFindTop (S.holds shelf.old) top changes (number_of tree) entries old edits.old.items }
-    ensures stays { SameNodes (S.holds shelf.old) (S.holds shelf.new) }
+) -> Result<Top, RebuildFault>
+    requires some { 1 ≤ length edits.old.items }
+    requires few { length edits.old.items ≤ 256 }
+    ensures stays { Stays S.is_fixed (S.holds shelf.old) (S.holds shelf.new) }
     ensures grows { (bytes : List ℕ) → S.used shelf.old bytes → S.used shelf.new bytes }
     ensures found { (top : List ℕ) (changes : List (Change Binding)) (entries : List Binding)
-        → CanFindTop (S.holds shelf.new) top changes (number_of tree) entries old edits.old.items
+        → CanFindTop (HasNoTwin (S.used shelf.new)) top changes (number_of tree) entries old edits.old.items
         → TopStays top changes (number_of tree) entries old edits.old.items
         → IfOk result (λ found. IsFound (levels Two (number_of tree) entries)
         (levels Two (number_of tree) (changed_entries entries changes)) edits.new.items
@@ -90,10 +98,14 @@ fn find_top<'a, 'c, S: FixedShelf<'a>>(
         (digests_of gone.old.items) (digests_of gone.new.items) found.digest.0 found.level) }
     // It reads just nodes that are gone, and, where the tree loses levels, the new top.
     ensures used { (top : List ℕ) (changes : List (Change Binding)) (entries : List Binding)
-        → CanFindTop (S.holds shelf.new) top changes (number_of tree) entries old edits.old.items
+        → CanFindTop (HasNoTwin (S.used shelf.new)) top changes (number_of tree) entries old edits.old.items
         → IfOk result (λ found. (bytes : List ℕ) → S.used shelf.new bytes
         → S.used shelf.old bytes ⊎ IsTopRead (levels Two (number_of tree) entries)
         (levels Two (number_of tree) (changed_entries entries changes)) bytes) }
+    // It is refused for memory, or the shelf doesn't hold a node of the old tree.
+    ensures told { (top : List ℕ) (changes : List (Change Binding)) (entries : List Binding)
+        → CanFindTop (HasNoTwin (S.used shelf.new)) top changes (number_of tree) entries old edits.old.items
+        → IfErr result (IsRefusedFor (levels Two (number_of tree) entries) (S.holds shelf.new)) }
 {
     let last = edits.len() - 1;
     if let Some(digest) = old {

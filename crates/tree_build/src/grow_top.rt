@@ -1,7 +1,8 @@
 //! Levels above those of the old tree.
 
-ghost use Rattle.std.specs.Prelude.{◌≡◌, ◌+◌, ◌≤◌, ◌++◌, ℕ, List, IfOk, OnOk, length, map};
+ghost use Rattle.std.specs.Prelude.{◌≡◌, ◌+◌, ◌≤◌, ◌++◌, ℕ, List, IfErr, IfOk, OnOk, length, map};
 ghost use Rattle.tree_build.specs.Rebuilding.{nodes_of};
+ghost use Rattle.tree_build.specs.declared.rebuild_fault.RebuildFault.TheVariants.{Memory};
 ghost use Rattle.tree_build.specs.internal.Building.{AreWithin};
 ghost use Rattle.tree_build.specs.internal.Edits.{Each, IsNewNode};
 ghost use Rattle.tree_build.specs.internal.Growing.{HasGrown};
@@ -10,10 +11,12 @@ ghost use Rattle.tree_node.specs.NodeRefs.{links_of, number_of};
 ghost use Rattle.tree_node.specs.Nodes.{Binding, Inner, Node, spelling};
 ghost use Rattle.tree_node.specs.Trees.{HasTree, Two, ends_by, is_marked_link, link_to, pieces};
 
+use crate::fits::are_within;
 use crate::open_piece::{close, cut};
 use crate::piece::NewPiece;
+use crate::rebuild_fault::RebuildFault;
 use std::alloc::{AllocError, Global};
-use tree_node::{Child, Digest, NewNode, Tree};
+use tree_node::{Child, Digest, LEVEL_LIMIT, NewNode, Tree};
 
 /// Makes the levels over these nodes, of which the first has the number after this one, until one node is
 /// left. It appends the new nodes to those that were added, and gives the digest of the top.
@@ -23,23 +26,34 @@ pub(crate) fn grow_top<'c>(
     before: u8,
     nodes: &[NewPiece<'c>],
     added: &mut Vec<NewNode>,
-) -> Result<Digest, AllocError>
-    requires { (entries : List Binding) × HasTree entries × (1 ≤ length nodes.now)
-        × Each IsNewNode nodes.now (tower Two (number_of tree) entries before) }
-    ensures { (entries : List Binding) → HasTree entries → 1 ≤ length nodes.now
+) -> Result<Digest, RebuildFault>
+    ensures grown { (entries : List Binding) → HasTree entries → 1 ≤ length nodes.now
         → Each IsNewNode nodes.now (tower Two (number_of tree) entries before)
         → IfOk result (λ top. HasGrown (tower Two (number_of tree) entries) before
         (nodes_of added.old.items) (nodes_of added.new.items) top.0) }
+    // Over the nodes of a tree memory alone refuses it.
+    ensures served { (entries : List Binding) → HasTree entries → 1 ≤ length nodes.now
+        → Each IsNewNode nodes.now (tower Two (number_of tree) entries before)
+        → IfErr result (λ fault. fault ≡ Memory) }
 {
     let mut children = children_of(alloc, nodes)?;
     let mut level = before;
     'growing: while children.len() > 1 {
+        if level >= LEVEL_LIMIT || !are_within(&[], children.as_slice()) {
+            return Err(RebuildFault::NoTree);
+        }
         level += 1;
         let news = level_over(alloc, tree, level, children.as_slice())?;
+        if news.len() >= children.len() {
+            return Err(RebuildFault::NoTree);
+        }
         children = children_of(alloc, news.as_slice())?;
         add_all(news, added)?;
     }
-    Ok(children[0].digest)
+    match children.first() {
+        Some(top) => Ok(top.digest),
+        None => Err(RebuildFault::NoTree),
+    }
 }
 
 /// What an inner node says of each of these nodes.

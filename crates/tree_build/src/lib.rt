@@ -11,6 +11,7 @@ mod change;
 mod cut;
 mod fault;
 mod finish;
+mod fits;
 mod grow_top;
 mod inner;
 mod laws;
@@ -25,6 +26,7 @@ mod old_node;
 mod open_piece;
 mod parent_changes;
 mod piece;
+mod rebuild_fault;
 mod rebuilder;
 mod rebuilt;
 mod seek;
@@ -38,6 +40,7 @@ pub use fault::BuildFault;
 pub use laws::{
     changed_list_law, cuts_law, determines_law, entries_law, levels_law, nodes_law, pieces_law,
 };
+pub use rebuild_fault::RebuildFault;
 pub use rebuilder::rebuild;
 pub use rebuilt::Rebuilt;
 pub use shape::Shape;

@@ -1,15 +1,17 @@
-//! Fetching nodes that a shelf is known to hold.
+//! Fetching the nodes of the old tree.
 
-ghost use Rattle.std.specs.Prelude.{◌≡◌, ◌⊎◌, ℕ, List, IfOk};
-ghost use Rattle.tree_build.specs.internal.Holding.{HoldsNode, IsHeld};
+ghost use Rattle.std.specs.Prelude.{◌≡◌, ◌⊎◌, ℕ, List, IfErr, IfOk};
+ghost use Rattle.tree_build.specs.internal.Holding.{IsHeld};
 ghost use Rattle.tree_build.specs.internal.Edits.{IsOldNode};
 ghost use Rattle.tree_node.specs.NodeRefs.{node_read};
 ghost use Rattle.tree_node.specs.Nodes.{Node, level_of, spelling};
-ghost use Rattle.tree_node.specs.Shelves.{SameNodes};
+ghost use Rattle.tree_build.specs.StrangeShelves.{HasNoTwin, cause_of};
+ghost use Rattle.tree_node.specs.Outcomes.{RefusedFor};
+ghost use Rattle.tree_node.specs.Shelves.{Stays};
 ghost use Rattle.tree_node.specs.Trees.{greatest_of};
 
-use std::alloc::AllocError;
-use tree_node::{Digest, Fetched, FixedShelf, NodeRef, ShelfFault};
+use crate::rebuild_fault::RebuildFault;
+use tree_node::{Digest, Fetched, NodeRef, Shelf, ShelfFault};
 
 /// A node of the old tree.
 #[derive(Clone, Copy)]
@@ -29,20 +31,24 @@ pub(crate) struct OpenNode<'a> {
     pub(crate) old: OldNode<'a>,
 }
 
-/// The node with this digest, which the shelf holds.
-pub(crate) fn fetch_held<'a, S: FixedShelf<'a>>(
+/// The node with this digest. Whatever the shelf is, it is the node that was put under it, unless another one has its
+/// digest.
+pub(crate) fn open_old<'a, S: Shelf<'a>>(
     shelf: &mut S,
     key: &Digest,
-) -> Result<OpenNode<'a>, AllocError>
-    requires { HoldsNode (S.holds shelf.old) key.now.0 }
-    ensures stays { SameNodes (S.holds shelf.old) (S.holds shelf.new) }
+) -> Result<OpenNode<'a>, RebuildFault>
+    ensures stays { Stays S.is_fixed (S.holds shelf.old) (S.holds shelf.new) }
     ensures grows { (bytes : List ℕ) → S.used shelf.old bytes → S.used shelf.new bytes }
-    ensures node { (node : Node) → IsHeld (S.holds shelf.new) key.now.0 node
+    ensures node { (node : Node) → IsHeld (HasNoTwin (S.used shelf.new)) key.now.0 node
         → IfOk result (λ found. node_read found.node ≡ node) }
     ensures old { IfOk result (λ found. IsOldNode found.old (node_read found.node)) }
-    ensures used { (node : Node) → IsHeld (S.holds shelf.new) key.now.0 node
+    ensures used { (node : Node) → IsHeld (HasNoTwin (S.used shelf.new)) key.now.0 node
         → (bytes : List ℕ) → S.used shelf.new bytes
         → S.used shelf.old bytes ⊎ (bytes ≡ spelling node) }
+    // It is refused for memory, or the shelf doesn't hold it.
+    ensures told { (node : Node) → IsHeld (HasNoTwin (S.used shelf.new)) key.now.0 node
+        → IfErr result (λ fault. RefusedFor (λ bytes. bytes ≡ spelling node) (S.holds shelf.new)
+        (cause_of fault)) }
 {
     match shelf.fetch_node(key) {
         Ok(Fetched { bytes, read }) => match read {
@@ -54,10 +60,10 @@ pub(crate) fn fetch_held<'a, S: FixedShelf<'a>>(
                 };
                 Ok(OpenNode { node, old })
             }
-            Err(_) => unreachable!(),
+            Err(_) => Err(RebuildFault::NoTree),
         },
-        Err(ShelfFault::Missing) => unreachable!(),
-        Err(ShelfFault::Memory) => Err(AllocError),
+        Err(ShelfFault::Missing) => Err(RebuildFault::Missing),
+        Err(ShelfFault::Memory) => Err(RebuildFault::Memory),
     }
 }
 

@@ -14,7 +14,8 @@ use crate::shape::Shape;
 use std::alloc::{AllocError, Global};
 use tree_node::{NewNode, Tree};
 
-/// Adds the items to the pending ones, one after the other, and makes the nodes of the pieces that end.
+/// Adds the items to the pending ones, one after the other, and makes the nodes of the pieces that end. Where they end,
+/// the items tell.
 pub(crate) fn cut<'c, T: LevelItem<'c>>(
     alloc: Global,
     tree: Tree,
@@ -24,14 +25,12 @@ pub(crate) fn cut<'c, T: LevelItem<'c>>(
     news: &mut Vec<NewPiece<'c>>,
 ) -> Result<(), AllocError>
     requires few { length pending.old.items < ITEM_LIMIT }
-    requires fit { T.Fit (map T.meaning pending.old.items ++ map T.meaning items.now) }
+    requires fit { T.Fit (map T.meaning (pending.old.items ++ items.now)) }
     ensures news { OnOk result (HaveCome news.old.items news.new.items
-        (map (T.node_over (number_of tree) level)
-        (done_by (ends_by Two T.marked_in) (map T.meaning pending.old.items)
-        (map T.meaning items.now)))) }
-    ensures pending { OnOk result (map T.meaning pending.new.items
-        ≡ pending_after (ends_by Two T.marked_in) (map T.meaning pending.old.items)
-        (map T.meaning items.now)) }
+        (map (λ piece. T.node_over (number_of tree) level (map T.meaning piece))
+        (done_by (ends_by Two T.marked) pending.old.items items.now))) }
+    ensures pending { OnOk result (pending.new.items
+        ≡ pending_after (ends_by Two T.marked) pending.old.items items.now) }
     ensures few { OnOk result (length pending.new.items < ITEM_LIMIT) }
 {
     for item in items {
@@ -50,14 +49,12 @@ fn cut_one<'c, T: LevelItem<'c>>(
     news: &mut Vec<NewPiece<'c>>,
 ) -> Result<(), AllocError>
     requires few { length pending.old.items < ITEM_LIMIT }
-    requires fit { T.Fit (map T.meaning pending.old.items ++ T.meaning item.now ∷ []) }
+    requires fit { T.Fit (map T.meaning (pending.old.items ++ item.now ∷ [])) }
     ensures news { OnOk result (HaveCome news.old.items news.new.items
-        (map (T.node_over (number_of tree) level)
-        (done_by (ends_by Two T.marked_in) (map T.meaning pending.old.items)
-        (T.meaning item.now ∷ [])))) }
-    ensures pending { OnOk result (map T.meaning pending.new.items
-        ≡ pending_after (ends_by Two T.marked_in) (map T.meaning pending.old.items)
-        (T.meaning item.now ∷ [])) }
+        (map (λ piece. T.node_over (number_of tree) level (map T.meaning piece))
+        (done_by (ends_by Two T.marked) pending.old.items (item.now ∷ [])))) }
+    ensures pending { OnOk result (pending.new.items
+        ≡ pending_after (ends_by Two T.marked) pending.old.items (item.now ∷ [])) }
     ensures few { OnOk result (length pending.new.items < ITEM_LIMIT) }
 {
     pending.push(*item)?;

@@ -1,28 +1,31 @@
 //! Changing one level of a tree.
 
 ghost use Rattle.std.specs.List.{AllByRecursion};
-ghost use Rattle.std.specs.Prelude.{◌≡◌, ◌<◌, ◌≤◌, ◌⊎◌, ◌++◌, ◌∷◌, [], ℕ, List, IfOk, OnOk, IsTrue, false, drop, if◌then◌else◌, length, map, take};
+ghost use Rattle.std.specs.Prelude.{◌≡◌, ◌<◌, ◌≤◌, ◌⊎◌, ◌++◌, ◌∷◌, [], ℕ, List, IfErr, IfOk, OnOk, IsTrue, false, drop, if◌then◌else◌, length, map, take};
 ghost use Rattle.tree_build.specs.Changing.{changed};
-ghost use Rattle.tree_build.specs.Cuts.{EndsNoSooner};
+ghost use Rattle.tree_build.specs.StrangeShelves.{HasNoTwin, IsRefusedFor};
+ghost use Rattle.tree_build.specs.declared.rebuild_fault.RebuildFault.TheVariants.{Memory};
 ghost use Rattle.tree_build.specs.internal.Edits.{HaveCome};
 ghost use Rattle.tree_build.specs.internal.Holding.{IsHeldLevel, IsOnWayTo};
-ghost use Rattle.tree_build.specs.internal.ItemChanges.{changes_meant};
+ghost use Rattle.tree_build.specs.internal.ItemChanges.{PutsKnown, changes_meant};
 ghost use Rattle.tree_build.specs.internal.RisingChanges.{AreOwnAndRising, IsUpTo};
 ghost use Rattle.tree_build.specs.internal.Steps.{CanChange, FirstIsAbove, HaveGoneOn, HaveReasons, IsEdit, IsWanted, changed_nodes, keys_changed, nodes_at};
+ghost use Rattle.tree_build.specs.internal.Unmarked.{IsUnmarkedInside};
 ghost use Rattle.tree_node.specs.declared.limits.TheConstants.{ITEM_LIMIT};
 ghost use Rattle.tree_node.specs.NodeRefs.{node_read, number_of};
 ghost use Rattle.tree_node.specs.Nodes.{Binding};
-ghost use Rattle.tree_node.specs.Shelves.{SameNodes};
+ghost use Rattle.tree_node.specs.Shelves.{Stays};
 ghost use Rattle.tree_node.specs.Trees.{Two, ends_by, levels, pieces_from};
 
-use crate::level_item::{ItemChange, LevelItem};
+use crate::level_item::{ItemChange, LevelItem, are_own_and_rising};
 use crate::merge::merge;
 use crate::old_node::{OldNode, OpenNode};
 use crate::open_piece::{close, cut};
 use crate::piece::NewPiece;
+use crate::rebuild_fault::RebuildFault;
 use crate::seek::seek;
 use std::alloc::{AllocError, Global};
-use tree_node::{Digest, FixedShelf, Tree, is_below};
+use tree_node::{Digest, ENTRY_LIMIT, Shelf, Tree, is_below};
 
 /// How one level changes.
 #[derive(Drop)]
@@ -54,46 +57,53 @@ struct LevelWork<'c, T> {
 }
 
 /// Changes a level of a tree: opens the nodes that the changes fall in, and cuts their items anew, each
-/// time from the start of a node until an old cut is met.
-pub(crate) fn change_level<'a, S: FixedShelf<'a>, T: LevelItem<'a>>(
+/// time from the start of a node until an old cut is met. `NoTree` where what the shelf gives is no tree.
+pub(crate) fn change_level<'a, S: Shelf<'a>, T: LevelItem<'a>>(
     alloc: Global,
     shelf: &mut S,
     place: OldLevel,
     changes: &[ItemChange<'a, T>],
-) -> Result<LevelEdit<'a>, AllocError>
-    requires { (entries : List Binding)
-        × CanChange (S.holds shelf.old) place T.key_in T.marked_in T.items_in T.node_over T.Fit
-        entries (changes_meant T.meaning changes.now) }
-    ensures stays { SameNodes (S.holds shelf.old) (S.holds shelf.new) }
+) -> Result<LevelEdit<'a>, RebuildFault>
+    requires known { AllByRecursion (PutsKnown T.knows_mark) changes.now }
+    ensures stays { Stays S.is_fixed (S.holds shelf.old) (S.holds shelf.new) }
     ensures grows { (bytes : List ℕ) → S.used shelf.old bytes → S.used shelf.new bytes }
     // It has the old nodes and the new ones by which the level and the changed level differ,
     ensures edited { (entries : List Binding)
-        → CanChange (S.holds shelf.new) place T.key_in T.marked_in T.items_in T.node_over T.Fit
+        → CanChange (HasNoTwin (S.used shelf.new)) place T.key_in T.marked_in T.items_in T.node_over T.Fit
         entries (changes_meant T.meaning changes.now)
         → IfOk result (IsEdit (nodes_at place entries) (changed_nodes place T.key_in T.marked_in
         T.items_in T.node_over entries (changes_meant T.meaning changes.now))) }
     // and one old node or more.
-    ensures some { IfOk result (λ edit. 1 ≤ length edit.olds.items) }
+    ensures some { 1 ≤ length changes.now
+        → IfOk result (λ edit. 1 ≤ length edit.olds.items) }
     // It reads just what is on the ways to these old nodes.
     ensures used { (entries : List Binding)
-        → IsHeldLevel (S.holds shelf.new) place.top.0 (number_of place.tree) place.level entries
+        → IsHeldLevel (HasNoTwin (S.used shelf.new)) place.top.0 (number_of place.tree) place.level entries
         → IfOk result (λ edit. (bytes : List ℕ) → S.used shelf.new bytes
         → S.used shelf.old bytes ⊎ IsOnWayTo (levels Two (number_of place.tree) entries)
         place.level edit.olds.items bytes) }
     // They are sought for a change or are gone, and those that are sought for a change are among them.
     ensures reasons { (entries : List Binding)
-        → CanChange (S.holds shelf.new) place T.key_in T.marked_in T.items_in T.node_over T.Fit
+        → CanChange (HasNoTwin (S.used shelf.new)) place T.key_in T.marked_in T.items_in T.node_over T.Fit
         entries (changes_meant T.meaning changes.now)
         → IfOk result (λ edit. HaveReasons (nodes_at place entries)
         (changed_nodes place T.key_in T.marked_in T.items_in T.node_over entries
         (changes_meant T.meaning changes.now))
         (keys_changed (changes_meant T.meaning changes.now))
         (keys_changed (changes_meant T.meaning changes.now)) edit.olds.items) }
+    // It is refused for memory, or the shelf doesn't hold a node of the tree.
+    ensures told { (entries : List Binding)
+        → CanChange (HasNoTwin (S.used shelf.new)) place T.key_in T.marked_in T.items_in T.node_over T.Fit
+        entries (changes_meant T.meaning changes.now)
+        → IfErr result (IsRefusedFor (levels Two (number_of place.tree) entries) (S.holds shelf.new)) }
 {
     let mut work = start(alloc);
     let mut done = 0;
     while let Some((wanted, above)) = next_wanted(&work, &changes[done..]) {
         let (found, is_last) = seek(shelf, &place.top, place.level, wanted, above)?;
+        if work.olds.len() >= ENTRY_LIMIT {
+            return Err(RebuildFault::NoTree);
+        }
         let end = done + count_up_to(&changes[done..], found.old.greatest, is_last);
         take(alloc, place, found, is_last, &changes[done..end], &mut work)?;
         done = end;
@@ -135,7 +145,8 @@ fn next_wanted<'c, T>(
     }
 }
 
-/// Takes an old node and the changes that fall in it, cuts on, and closes the last piece of the level.
+/// Takes an old node and the changes that fall in it, cuts on, and closes the last piece of the level. `NoTree` where the
+/// changes don't rise, or more comes of them than a tree may have.
 fn take<'c, T: LevelItem<'c>>(
     alloc: Global,
     place: OldLevel,
@@ -143,23 +154,32 @@ fn take<'c, T: LevelItem<'c>>(
     is_last: bool,
     here: &[ItemChange<'c, T>],
     work: &mut LevelWork<'c, T>,
-) -> Result<(), AllocError>
+) -> Result<(), RebuildFault>
     requires few { length work.old.pending.items < ITEM_LIMIT }
-    requires own { AreOwnAndRising T.key_in (changes_meant T.meaning here.now) }
-    requires fit { T.Fit (map T.meaning work.old.pending.items ++ changed T.key_in
-        (T.items_in (node_read found.node)) (changes_meant T.meaning here.now)) }
-    requires no_sooner { EndsNoSooner Two T.marked_in (T.items_in (node_read found.node)) }
+    requires known { AllByRecursion (PutsKnown T.knows_mark) here.now }
+    ensures served { AreOwnAndRising T.key_in (changes_meant T.meaning here.now)
+        → T.Fit (map T.meaning work.old.pending.items ++ changed T.key_in
+        (T.items_in (node_read found.entry.node)) (changes_meant T.meaning here.now))
+        → IfErr result (λ fault. fault ≡ Memory) }
     ensures few { OnOk result (length work.new.pending.items < ITEM_LIMIT) }
     ensures olds { OnOk result (work.new.olds.items ≡ work.old.olds.items ++ found.entry.old ∷ []) }
-    ensures went_on { OnOk result (HaveGoneOn (ends_by Two T.marked_in)
+    // The pieces end where those of a list end, if the old node is of a tree.
+    ensures went_on { IsUnmarkedInside (node_read found.entry.node)
+        → OnOk result (HaveGoneOn (ends_by Two T.marked_in)
         (T.node_over (number_of place.tree) place.level) is_last
         (map T.meaning work.old.pending.items) work.old.news.items
         (changed T.key_in (T.items_in (node_read found.entry.node))
         (changes_meant T.meaning here.now))
         (map T.meaning work.new.pending.items) work.new.news.items) }
 {
+    if !are_own_and_rising(here) {
+        return Err(RebuildFault::NoTree);
+    }
     let items = T::items_of(alloc, found.node)?;
     let merged = merge(alloc, items.as_slice(), here)?;
+    if !T::fit(work.pending.as_slice(), merged.as_slice()) {
+        return Err(RebuildFault::NoTree);
+    }
     cut(
         alloc,
         place.tree,

@@ -1,6 +1,7 @@
 //! Nodes, trees that are built as a whole, as a stream or through a device, walks over trees, and shelves over sources of
 //! nodes.
 
+mod by_hand;
 mod codes;
 mod digests;
 mod levels;

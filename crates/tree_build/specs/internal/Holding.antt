@@ -14,11 +14,6 @@ pub record IsHeld (held : List ℕ → Type 0) (key : List ℕ) (node : Node) : 
   pub holds : held (spelling node)
   pub digest_is : key ≡ digest (spelling node)
 
--- the set holds a node with this digest
-pub record HoldsNode (held : List ℕ → Type 0) (key : List ℕ) : Type 0 where
-  pub node : Node
-  pub is_held : IsHeld held key node
-
 -- the set holds the tree of these entries, whose top has this digest
 pub record IsHeldTree (held : List ℕ → Type 0) (top : List ℕ) (tree : ℕ) (entries : List Binding) : Type 0 where
   pub is_tree : IsTree tree
@@ -30,13 +25,6 @@ pub record IsHeldTree (held : List ℕ → Type 0) (top : List ℕ) (tree : ℕ)
 pub record IsHeldLevel (held : List ℕ → Type 0) (top : List ℕ) (tree level : ℕ) (entries : List Binding) : Type 0 where
   pub is : IsHeldTree held top tree entries
   pub within : level < length (levels Two tree entries)
-
--- the set holds a tree with this top, which has the level
-pub record HoldsTree (held : List ℕ → Type 0) (top : List ℕ) (level : ℕ) : Type 0 where
-  pub tree : ℕ
-  pub entries : List Binding
-  pub is : IsHeldTree held top tree entries
-  pub has_level : level < length (levels Two tree entries)
 
 -- the node of the level that is sought, with those before and after it
 pub record IsSoughtNode (tree : List (List Node)) (level : ℕ) (wanted : List ℕ) (above : Bool) (node : Node) (last : Bool) : Type 0 where

@@ -1,5 +1,5 @@
 -- Changes of a level's items, without where they lie in memory.
-use Rattle.std.specs.Prelude.{List, map}
+use Rattle.std.specs.Prelude.{List, map, IfSome}
 use Rattle.std.specs.Option.{option_map}
 use Rattle.tree_build.specs.Changing.{Change}
 use Rattle.tree_build.specs.declared.level_item.ItemChange.{ItemChange}
@@ -16,3 +16,7 @@ change_meant meaning change = record { key = change.key.now; put = option_map me
 
 abbrev pub changes_meant : {T M : Type 0} → (T → M) → List (ItemChange T) → List (Change M)
 changes_meant meaning changes = map (change_meant meaning) changes
+
+-- of what it puts, this is so
+abbrev pub PutsKnown : {T : Type 0} → (T → Type 0) → ItemChange T → Type 0
+PutsKnown knows change = IfSome change.put knows

@@ -5,3 +5,4 @@ mod building;
 mod chance;
 mod rebuilding;
 mod rows;
+mod strangers;

@@ -1,6 +1,5 @@
 //! Worked values from outside: the rows of docs/FORMATS.md, and nodes that no builder made.
 
-mod by_hand;
 mod ranges;
 mod refusals;
 mod walks;

@@ -1,9 +1,10 @@
-use Rattle.std.proofs.Common.{◌⊎◌, inl, inr, ◌≡◌, ◌≤◌, ◌<◌, ◌+◌, ◌-◌, [], ◌∷◌, ℕ, List, length, get_or, refl, sym, ap, subst, ◌∙◌, arith}
+use Rattle.std.proofs.Common.{◌⊎◌, inl, inr, ◌≡◌, ◌≤◌, ◌<◌, ◌+◌, ◌-◌, [], ◌∷◌, ℕ, List, length, get_or, sym, ap, subst, ◌∙◌, arith}
 use Rattle.tree_node.specs.Nodes.{Node}
 use Rattle.tree_node.specs.NodeRefs.{number_of}
-use Rattle.tree_node.specs.Trees.{Two, level_at, levels, no_node}
+use Rattle.tree_node.specs.Trees.{IsNodeOf, Two, level_at, levels, no_node}
 use Rattle.std.specs.Prelude.{IfSome}
 use Rattle.tree_build.specs.Rebuilding.{changed_entries, digests_of, nodes_of}
+use Rattle.tree_build.specs.StrangeShelves.{IsRefusedFor}
 use Rattle.tree_build.specs.declared.shrink_top.Top.{Top}
 use Rattle.tree_build.specs.internal.FoundTops.{IsFound, IsTopRead}
 use Rattle.tree_build.specs.internal.Shrinking.{HasShrunk, IsReadBy}
@@ -15,68 +16,11 @@ use Rattle.tree_build.specs.internal.Towers.{tower}
 use Rattle.tree_build.specs.declared.step.LevelEdit.{LevelEdit}
 use Rattle.tree_build.specs.declared.piece.NewPiece.{NewPiece}
 use Rattle.tree_build.proofs.LastLemmas.{last_alone, last_digest, last_new}
-use Rattle.tree_build.proofs.OldLevels.{old_few}
+use Rattle.tree_build.proofs.ErrLemmas.{fault_as, memory_told}
 use Rattle.tree_build.proofs.ShrinkLemmas.{shrinks}
 use Rattle.tree_build.proofs.DescentLemmas.{lone}
 use Rattle.tree_build.proofs.TopReads.{if_ok_both, settled_read}
 use Rattle.tree_build.proofs.finish.find_top.Goals as goal
-
-pub overflow_sub-last : goal.overflow_sub-last
-overflow_sub-last g c =
-    let (top, changes, entries, can) = c.requires in
-    omega (arith, c.len-last.ensures, c.args.edits.now.ok.0, can.some)
-
-pub index-requires : goal.index-requires
-index-requires g c =
-    let (top, changes, entries, can) = c.requires in
-    omega (arith, c.len-last.ensures, c.args.edits.now.ok.0, can.some)
-
-pub shrink_top-requires : goal.shrink_top-requires
-shrink_top-requires g c κs =
-    let (top, changes, entries, can) = c.requires in
-    let tree = number_of c.args.tree in
-    let edits = c.args.edits.now.items in
-    let last = c.len-last.result - 1 in
-    let new : ℕ → List Node = tower Two tree (changed_entries entries changes) in
-    let counted : c.len-last.result ≡ length edits = c.len-last.ensures ∙ c.args.edits.now.ok.0 in
-    let at : last + 1 ≡ length edits = omega (arith, counted, can.some) in
-    let all = can.whole c.in_default.is in
-    let one : c.index.result.now.news.items ≡ c.one-item.result ∷ [] =
-    sym c.as_slice.ensures.value ∙ lone c.as_slice.result.now c.one-item.result (omega (arith, c.in-len1.len_at_least, c.in-len1.len_below)) ∙ ap (λ (p : NewPiece). p ∷ []) (sym c.one-item.is) in
-    let same_last : last ≡ length edits - 1 = ap (λ n. n - 1) counted in
-    let alone = subst (λ n. length (new n) ≡ 1) same_last (last_alone tree entries new edits c.index.result.now last can.are can.opened at all c.index.ensures c.one-item.result one) in
-    let digest_is = subst (λ n. c.one-item.result.node.digest.0 ≡ node_digest (get_or (new n) 0 no_node)) same_last (last_digest tree entries new edits c.index.result.now last can.are can.opened at all c.index.ensures c.one-item.result one c.one-item.result.node.own) in
-    let back = sym c.as_slice-in-len1.ensures.value in (
-      (refl, tt),
-      (
-        tree,
-        top,
-        changes,
-        entries,
-        subst (λ (es : List LevelEdit). 1 ≤ length es) back can.some,
-        shrinks _ tree top changes entries edits _ _ can.is can.are can.high alone digest_is back,
-      ),
-    )
-
-pub overflow_cast-last : goal.overflow_cast-last
-overflow_cast-last g c =
-    let (top, changes, entries, can) = c.requires in
-    omega (arith, c.len-last.ensures, c.args.edits.now.ok.0, can.high, old_few (number_of c.args.tree) entries can.is.has)
-
-pub grow_top-requires : goal.grow_top-requires
-grow_top-requires g c =
-    let (top, changes, entries, can) = c.requires in
-    let tree = number_of c.args.tree in
-    let edits = c.args.edits.now.items in
-    let last = c.len-last.result - 1 in
-    let counted : c.len-last.result ≡ length edits = c.len-last.ensures ∙ c.args.edits.now.ok.0 in
-    let at : last + 1 ≡ length edits = omega (arith, counted, can.some) in (
-      changed_entries entries changes,
-      can.is.changed_has,
-      omega (arith, c.in_default-as_slice.len_at_least),
-      subst (λ (ps : List NewPiece). Each IsNewNode ps (tower Two tree (changed_entries entries changes) last)) (sym c.as_slice.ensures.value)
-          (last_new tree entries (tower Two tree (changed_entries entries changes)) edits c.index.result.now last can.are can.opened at (can.whole c.in_default.is) c.index.ensures),
-    )
 
 pub returns-in-Some-clause-found : goal.returns-in-Some-clause-found
 returns-in-Some-clause-found g c = λ top changes entries can stays.
@@ -177,4 +121,34 @@ returns-in_ok-digest-in_default-as_slice-clause-found g c = λ top changes entri
     let stand = subst (λ (ps : List NewPiece). Each IsNewNode ps (new last)) (sym c.as_slice.ensures.value) news in
     let many : 2 ≤ length (new last) = omega (arith, c.in_default-as_slice.len_at_least, each_length IsNewNode c.as_slice.result.now (new last) stand) in
     found_grown tree entries after can.is.has can.is.changed_has can.is.is_tree edits can.are can.some all last at many (nodes_of c.args.added.now.items) (nodes_of c.grow_top.new.added.items) (digests_of c.args.gone.now.items) c.in_ok-digest-in_default-as_slice.digest.0
-    (c.in_ok-digest-in_default-as_slice.ensures after can.is.changed_has (omega (arith, c.in_default-as_slice.len_at_least)) stand)
+    (c.in_ok-digest-in_default-as_slice.ensures.grown after can.is.changed_has (omega (arith, c.in_default-as_slice.len_at_least)) stand)
+
+pub returns-in-len1-clause-told : goal.returns-in-len1-clause-told
+returns-in-len1-clause-told g c = λ top changes entries can.
+    let tree = number_of c.args.tree in
+    let after = changed_entries entries changes in
+    let edits = c.args.edits.now.items in
+    let last = c.len-last.result - 1 in
+    let new : ℕ → List Node = tower Two tree after in
+    let counted : c.len-last.result ≡ length edits = c.len-last.ensures ∙ c.args.edits.now.ok.0 in
+    let at : last + 1 ≡ length edits = omega (arith, counted, can.some) in
+    let all = can.whole c.in_default.is in
+    let one : c.index.result.now.news.items ≡ c.one-item.result ∷ [] =
+    sym c.as_slice.ensures.value ∙ lone c.as_slice.result.now c.one-item.result (omega (arith, c.in-len1.len_at_least, c.in-len1.len_below)) ∙ ap (λ (p : NewPiece). p ∷ []) (sym c.one-item.is) in
+    let same_last : last ≡ length edits - 1 = ap (λ n. n - 1) counted in
+    let alone = subst (λ n. length (new n) ≡ 1) same_last (last_alone tree entries new edits c.index.result.now last can.are can.opened at all c.index.ensures c.one-item.result one) in
+    let digest_is = subst (λ n. c.one-item.result.node.digest.0 ≡ node_digest (get_or (new n) 0 no_node)) same_last (last_digest tree entries new edits c.index.result.now last can.are can.opened at all c.index.ensures c.one-item.result one c.one-item.result.node.own) in
+    let back = sym c.as_slice-in-len1.ensures.value in
+    c.shrink_top.ensures.told tree top changes entries (shrinks _ tree top changes entries edits _ _ can.is can.are can.high alone digest_is back)
+
+pub returns-in_err-digest-in_default-as_slice-clause-told : goal.returns-in_err-digest-in_default-as_slice-clause-told
+returns-in_err-digest-in_default-as_slice-clause-told g c = λ top changes entries can.
+    let tree = number_of c.args.tree in
+    let edits = c.args.edits.now.items in
+    let last = c.len-last.result - 1 in
+    let counted : c.len-last.result ≡ length edits = c.len-last.ensures ∙ c.args.edits.now.ok.0 in
+    let at : last + 1 ≡ length edits = omega (arith, counted, can.some) in
+    let stand = subst (λ (ps : List NewPiece). Each IsNewNode ps (tower Two tree (changed_entries entries changes) last)) (sym c.as_slice.ensures.value)
+    (last_new tree entries (tower Two tree (changed_entries entries changes)) edits c.index.result.now last can.are can.opened at (can.whole c.in_default.is) c.index.ensures) in
+    fault_as (IsRefusedFor (levels Two tree entries) (g.S.Shelf.holds c.args.shelf.now)) c.from_residual-in_err-digest-in_default-as_slice.result c.in_err-digest-in_default-as_slice.field-0.0 c.from_residual-in_err-digest-in_default-as_slice.ensures.1
+    (memory_told (IsNodeOf (levels Two tree entries)) (g.S.Shelf.holds c.args.shelf.now) c.in_err-digest-in_default-as_slice.field-0.0 (c.in_err-digest-in_default-as_slice.ensures.served (changed_entries entries changes) can.is.changed_has (omega (arith, c.in_default-as_slice.len_at_least)) stand))

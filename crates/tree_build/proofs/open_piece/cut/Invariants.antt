@@ -8,7 +8,6 @@ use Rattle.tree_build.proofs.open_piece.cut.Given as goal
 abbrev pub invariant-loop-item : goal.invariant-loop-item
 invariant-loop-item g l = record {
   few : length l.pending.items < 64;
-  cutting : IsCutting g.T.NodeItem.Fit (ends_by Two g.T.NodeItem.marked_in) (g.T.NodeItem.node_over (number_of l.tree) l.level)
-      (map g.T.NodeItem.meaning l.fn.pending.items) (map g.T.NodeItem.meaning l.items) l.fn.news.items l.news.items
-      (map g.T.NodeItem.meaning l.pending.items) (map g.T.NodeItem.meaning (drop l.item-index l.items));
+  cutting : IsCutting (λ xs. g.T.NodeItem.Fit (map g.T.NodeItem.meaning xs)) (ends_by Two g.T.Cut.marked) (λ piece. g.T.NodeItem.node_over (number_of l.tree) l.level (map g.T.NodeItem.meaning piece))
+      l.fn.pending.items l.items l.fn.news.items l.news.items l.pending.items (drop l.item-index l.items);
 }

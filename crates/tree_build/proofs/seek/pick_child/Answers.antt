@@ -13,7 +13,7 @@ loop-child-preserved c =
     record {
       next = tt;
       finite = tt;
-      some = not_end c.next.new.self c.is_end-is_last.result c.is_end-is_last.ensures c.if-is_last.false;
+      some = λ _. not_end c.next.new.self c.is_end-is_last.result c.is_end-is_last.ensures c.if-is_last.false;
       before = (
         before.0 ++ link ∷ [],
         before.1 ∙ ap (λ (links : List Link). before.0 ++ links) c.in-Some.ensures.steps ∙ sym (append_assoc before.0 (link ∷ []) c.next.new.self),

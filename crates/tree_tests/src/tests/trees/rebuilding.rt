@@ -1,78 +1,13 @@
 //! Rebuilt trees beside those that are built from nothing, of lists and changes made by chance.
 
-ghost use Rattle.std.specs.List.{AllByRecursion};
-ghost use Rattle.std.specs.Prelude.{None, IfOk, IfSome, IsTrue};
-ghost use Rattle.tree_build.specs.Rebuilding.{HoldsOldTree, change_of, changed_entries, changes_of, keys_of_changes};
-ghost use Rattle.tree_node.specs.NodeRefs.{bindings_of};
-ghost use Rattle.tree_node.specs.Nodes.{AreRisingFrom};
-ghost use Rattle.tree_node.specs.Recorders.{RecorderHolds};
-ghost use Rattle.tree_node.specs.Stocks.{HasNode};
-ghost use Rattle.tree_node.specs.Trees.{FitsTree, HasTree};
-
-use super::super::whole_trees::{built, has_tree};
+use super::super::whole_trees::built;
 use super::building::keys_alone;
 use super::chance::{Case, case_of, entries_of, entry_change, entry_changes, keys};
-use std::alloc::{AllocError, Global};
+use std::alloc::Global;
 use std::process::Abort;
 use std::test::Fail;
-use tree_build::{Entry, EntryChange, Rebuilt, Shape, build, rebuild};
-use tree_node::{
-    Digest, ENTRY_LIMIT, KEY_LIMIT, Recorder, Shelf, ShelfFault, Stock, Tree, VALUE_LIMIT, is_above,
-};
-
-/// Whether what the change puts is within the limits.
-fn fits(change: &EntryChange) -> bool
-    ensures { IsTrue result → IfSome (change_of change.now).put FitsTree }
-{
-    match &change.value {
-        Some(value) => change.key.len() <= KEY_LIMIT && value.len() <= VALUE_LIMIT,
-        None => true,
-    }
-}
-
-/// Whether the keys of the changes rise and what they put is within the limits.
-fn are_changes(changes: &[EntryChange]) -> bool
-    ensures rising { IsTrue result → AreRisingFrom None (keys_of_changes (changes_of changes.now)) }
-    ensures fit { IsTrue result → AllByRecursion (λ change. IfSome change.put FitsTree) (changes_of changes.now) }
-{
-    let mut last: Option<&[u8]> = None;
-    for change in changes {
-        let key = change.key.as_slice();
-        if !fits(change) || !is_above(last, key) {
-            return false;
-        }
-        last = Some(key);
-    }
-    true
-}
-
-/// Whether the tree of the entries can be changed so.
-fn can_change(entries: &[Entry<'_>], changes: &[EntryChange]) -> bool
-    ensures old { IsTrue result → HasTree (bindings_of entries.now) }
-    ensures rising { IsTrue result → AreRisingFrom None (keys_of_changes (changes_of changes.now)) }
-    ensures new { IsTrue result → HasTree (changed_entries (bindings_of entries.now) (changes_of changes.now)) }
-{
-    if !has_tree(entries) || !are_changes(changes) {
-        return false;
-    }
-    entries.len().saturating_add(changes.len()) <= ENTRY_LIMIT
-}
-
-/// Builds in the stock the tree of these entries, which can be changed so.
-fn build_old(
-    alloc: Global,
-    entries: &[Entry<'_>],
-    tree: Tree,
-    changes: &[EntryChange],
-    stock: &mut Stock,
-) -> Result<Digest, Fail>
-    ensures { IfOk result (λ top. HoldsOldTree (HasNode stock.new) top.0 (changes_of changes.now)) }
-{
-    if !can_change(entries, changes) {
-        return Err(Fail::from("the tree can't be changed so"));
-    }
-    Ok(build(alloc, entries, tree, Shape::Two, stock)?)
-}
+use tree_build::{Entry, EntryChange, RebuildFault, Rebuilt, Shape, rebuild};
+use tree_node::{Digest, Recorder, Shelf, ShelfFault, Stock, Tree};
 
 /// The level of the node with this digest, which is the second of its bytes.
 fn level_of(alloc: Global, stock: &Stock, digest: &Digest) -> Result<u8, ShelfFault> {
@@ -94,7 +29,7 @@ fn rebuilt(
     changes: &[EntryChange],
 ) -> Result<(Top, Digest), Fail> {
     let mut stock = Stock::new(alloc);
-    let digest = build_old(alloc, entries, Tree::Cells, changes, &mut stock)?;
+    let digest = built(alloc, entries, Tree::Cells, Shape::Two, &mut stock)?;
     let level = level_of(alloc, &stock, &digest)?;
     let rebuilt = rebuild(alloc, &mut stock.shelf(alloc), &digest, changes)?;
     Ok((Top { digest, level }, rebuilt.top))
@@ -203,12 +138,10 @@ fn rebuilt_at_last<'a>(
     shelf: &mut Recorder<'a>,
     top: &Digest,
     changes: &'a [EntryChange],
-) -> Result<(usize, usize), AllocError>
-    requires { HoldsOldTree (RecorderHolds shelf.old) top.now.0 (changes_of changes.now) }
-{
+) -> Result<(usize, usize), RebuildFault> {
     match rebuild(alloc, shelf, top, changes) {
-        Ok(rebuilt) => Ok(counts_of(&rebuilt)),
-        Err(_) => Ok(counts_of(&rebuild(alloc, shelf, top, changes)?)),
+        Err(RebuildFault::Memory) => Ok(counts_of(&rebuild(alloc, shelf, top, changes)?)),
+        first => Ok(counts_of(&first?)),
     }
 }
 
@@ -218,9 +151,7 @@ fn counted<'a>(
     mut shelf: Recorder<'a>,
     top: &Digest,
     changes: &'a [EntryChange],
-) -> Result<(usize, usize, usize), AllocError>
-    requires { HoldsOldTree (RecorderHolds shelf) top.now.0 (changes_of changes.now) }
-{
+) -> Result<(usize, usize, usize), Fail> {
     let (added, gone) = rebuilt_at_last(alloc, &mut shelf, top, changes)?;
     Ok((added, gone, shelf.parts()?.len()))
 }
@@ -233,7 +164,7 @@ fn is_lowered(
     changes: &[EntryChange],
 ) -> Result<(), Fail> {
     let mut stock = Stock::new(alloc);
-    let top = build_old(alloc, entries, Tree::Cells, changes, &mut stock)?;
+    let top = built(alloc, entries, Tree::Cells, Shape::Two, &mut stock)?;
     // None is added and two are gone. The old top, the leaf that goes, and the new top were given.
     assert!(rt; counted(alloc, stock.shelf(alloc), &top, changes)? == (0, 2, 3));
     Ok(())
@@ -274,7 +205,7 @@ fn check_used(
 ) -> Result<(), Fail> {
     let alloc = rt.alloc();
     let mut stock = Stock::new(alloc);
-    let top = build_old(alloc, entries, tree, changes, &mut stock)?;
+    let top = built(alloc, entries, tree, Shape::Two, &mut stock)?;
     let levels = usize::from(level_of(alloc, &stock, &top)?).saturating_add(1);
     let (added, gone, used) = counted(alloc, stock.shelf(alloc), &top, changes)?;
     assert!(rt;

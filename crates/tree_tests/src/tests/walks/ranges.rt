@@ -1,6 +1,6 @@
 //! Ends of ranges, told by hand: the rows of docs/FORMATS.md.
 
-use super::by_hand::range_of;
+use super::super::by_hand::range_of;
 use std::process::Abort;
 use std::test::Fail;
 use tree_node::is_above;

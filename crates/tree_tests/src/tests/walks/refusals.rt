@@ -1,6 +1,6 @@
 //! Nodes that no builder made.
 
-use super::by_hand::{all, child, keys, put_inner, put_leaf, walked};
+use super::super::by_hand::{all, child, keys, put_inner, put_leaf, walked};
 use std::alloc::Global;
 use std::process::Abort;
 use std::test::Fail;

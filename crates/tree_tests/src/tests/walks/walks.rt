@@ -1,6 +1,6 @@
 //! Walks and counts over trees written by hand: the rows of docs/FORMATS.md.
 
-use super::by_hand::{
+use super::super::by_hand::{
     Answer, all, child, counted, put_65_keys, put_130_keys, put_inner, put_leaf, range_of, walked,
     walked_within,
 };

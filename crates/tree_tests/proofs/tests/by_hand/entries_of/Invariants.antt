@@ -1,7 +1,7 @@
 use Rattle.std.specs.List.{All}
 use Rattle.tree_node.specs.NodeRefs.{binding_of}
 use Rattle.tree_node.specs.Nodes.{FitsEntry}
-use Rattle.tree_tests.proofs.tests.walks.by_hand.entries_of.Given as goal
+use Rattle.tree_tests.proofs.tests.by_hand.entries_of.Given as goal
 
 -- each item so far can be written
 abbrev pub invariant-loop-key : goal.invariant-loop-key
