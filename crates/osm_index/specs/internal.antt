@@ -9,4 +9,5 @@ pub mod NodeChanges
 pub mod HeldTrees
 pub mod Applying
 pub mod ChangedTrees
+pub mod UpdateFaults
 pub mod Updates
