@@ -223,6 +223,6 @@ one_of_four p removed puts set tops held h tree = record {
 }
 
 -- a refusal that is passed on
-pub refused_as : {A F : Type 0} (Says : F → Type 0) (result : Result A F) (fault : F) → IsErrAnd result (λ f. f ≡ fault) → Says fault → IfErr result Says
+pub refused_as : {A : Type 0} (Says : ApplyFault → Type 0) (result : Result A ApplyFault) (fault : ApplyFault) → IsErrAnd result (λ f. f ≡ fault) → Says fault → IfErr result Says
 refused_as Says (Ok value) fault is says = tt
 refused_as Says (Err f) fault is says = subst Says (sym is) says

@@ -9,5 +9,4 @@ pub mod NodeChanges
 pub mod HeldTrees
 pub mod Applying
 pub mod ChangedTrees
-pub mod UpdateFaults
 pub mod Updates

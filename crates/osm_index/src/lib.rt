@@ -14,7 +14,6 @@ mod change_refusals;
 mod changed_trees;
 mod delta;
 mod digits;
-mod edition_after;
 mod entry_changes;
 mod entry_list;
 mod fault;
@@ -28,10 +27,7 @@ mod prefixed_entry;
 mod put_objects;
 mod snapshot;
 mod sort_entries;
-mod tree_changes;
 mod update;
-mod update_fault;
-mod update_plan;
 
 pub use announced_fault::AnnouncedFault;
 pub use apply_fault::ApplyFault;
@@ -49,6 +45,3 @@ pub use osm_keys::{
     tag_key_law, tag_key_range, tag_law, tag_range, write_manifest,
 };
 pub use snapshot::Snapshot;
-pub use update::Update;
-pub use update_fault::UpdateFault;
-pub use update_plan::UpdatePlan;

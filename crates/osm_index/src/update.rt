@@ -1,4 +1,4 @@
-//! What a publication becomes by changes.
+//! What a snapshot becomes by changes.
 
 ghost use Rattle.std.specs.Prelude.{◌≡◌, ◌≢◌, IfOk, map};
 ghost use Rattle.tree_node.specs.Shelves.{IsClashFree};
@@ -13,19 +13,19 @@ use osm_keys::{Edition, Manifest, write_manifest};
 use std::alloc::{AllocError, Global};
 use tree_node::{Digest, NewNode};
 
-/// What a publication becomes by changes, and the nodes that come and go.
+/// What a snapshot becomes by changes, and the nodes that come and go; all that takes memory, but for the stock.
 #[derive(Drop)]
-pub struct Update {
+pub(crate) struct Update {
     /// The new manifest.
-    pub manifest: Manifest,
+    pub(crate) manifest: Manifest,
     /// The new root.
-    pub root: Digest,
+    pub(crate) root: Digest,
     /// The nodes that the old publication doesn't have, each once.
-    pub nodes: Vec<NewNode>,
+    pub(crate) nodes: Vec<NewNode>,
     /// Their digests.
-    pub added: Vec<Digest>,
+    pub(crate) added: Vec<Digest>,
     /// The digests of the nodes that only the old publication has, each once.
-    pub gone: Vec<Digest>,
+    pub(crate) gone: Vec<Digest>,
 }
 
 /// The update by which these trees come into the place of the old ones, whose root is given, in a new edition.

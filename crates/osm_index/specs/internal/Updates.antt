@@ -9,14 +9,10 @@ use Rattle.tree_node.specs.declared.new_node.NewNode.{NewNode}
 use Rattle.tree_node.specs.declared.tree.Tree.{Tree}
 use Rattle.osm_index.specs.Applying.{AreApart, AreApplicable, AreDigestsOfOnly, IsApplied, IsFirstMissing, IsFirstTwice, IsLast, IsSecond, edition_after}
 use Rattle.osm_keys.specs.Manifests.{HasSequence, manifest_bytes, top_among}
-use Rattle.osm_keys.specs.declared.manifest.Manifest.{Manifest}
-use Rattle.osm_keys.specs.Publications.{HasTooMany, IsNodeIn, IsPublication, IsPublicationOf, Publication, manifest_of, root_of, top_in}
+use Rattle.osm_keys.specs.Publications.{HasTooMany, IsNodeIn, IsPublicationOf, Publication, manifest_of, root_of, top_in}
 use Rattle.osm_index.specs.declared.apply_fault.ApplyFault.{ApplyFault}
 use Rattle.osm_index.specs.declared.apply_fault.ApplyFault.TheVariants as faults
 use Rattle.osm_index.specs.declared.update.Update.{Update}
-use Rattle.osm_index.specs.declared.update_plan.UpdatePlan.{UpdatePlan}
-use Rattle.osm_index.specs.internal.ChangedTrees.{AreChangesOf, IsChangedSet}
-use Rattle.osm_index.specs.internal.Putting.{IsTreeNode}
 
 -- the edition at the next sequence comes after the other one, and the sequences of both fit
 pub record IsNext (edition next : Edition) : Type 0 where
@@ -50,21 +46,3 @@ RefusesUpdate p all (faults.NotThere r) = (¬ IsLast p.edition) × AreApart all 
 RefusesUpdate p all faults.TooMany = AreApplicable p.objects p.edition all × ((set : List Element) × IsApplied p.objects all set × HasTooMany set)
 RefusesUpdate p all faults.Clash = ⊥
 RefusesUpdate p all faults.Memory = ⊤
-
--- the publication's trees are under this manifest, and the set holds their nodes
-pub record IsUnder (p : Publication) (manifest : Manifest) (held : List ℕ → Type 0) : Type 0 where
-  pub published : IsPublication p
-  pub same_edition : p.edition ≡ manifest.edition
-  pub tops_are : (tree : Tree) → top_among manifest.tops tree ≡ top_in p tree
-  pub nodes : (bytes : List ℕ) → IsTreeNode p bytes → held bytes
-
--- the plan turns the publication into one of the changed set at the next sequence
-pub record IsPlanOf (p : Publication) (all : List Change) (plan : UpdatePlan) : Type 0 where
-  pub removed : List Element
-  pub puts : List Element
-  pub set : List Element
-  pub applied : IsApplied p.objects all set
-  pub applicable : AreApplicable p.objects p.edition all
-  pub changed_set : IsChangedSet p.objects removed puts set
-  pub next : IsNext p.edition plan.edition
-  pub changes : AreChangesOf p set plan.changes
