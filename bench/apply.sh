@@ -11,7 +11,7 @@ share=${1:-1}
 . "$(dirname "$0")/extract.sh"
 extract "$share"
 
-build_program apply_speed 'opl_codec osm_index anyhow'
+build_program apply_speed 'osm_model opl_codec osm_index anyhow'
 
 echo "$(rt version)"
 tell_machine
