@@ -24,6 +24,7 @@ ghost use Rattle.tree_walk.specs.Uses.{nodes_around};
 use crate::fault::EvalFault;
 use crate::meter::Meter;
 use crate::print::print;
+use crate::repetition::may_repeat;
 use crate::run::run;
 use crate::select_memo::SelectMemo;
 use crate::sink::Sink;
@@ -67,7 +68,7 @@ pub(crate) fn answer_all<'q, W: Source, T: Sink>(
         meter.old.spent meter.new.spent) }
 {
     let mut sets = NamedSets::new(alloc);
-    let mut memo = SelectMemo::new(alloc);
+    let mut memo = SelectMemo::new(alloc, may_repeat(statements));
     for statement in statements {
         answer_statement(
             alloc, form, statement, &mut sets, source, meter, &mut memo, sink,

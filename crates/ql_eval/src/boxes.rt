@@ -138,8 +138,8 @@ fn add_range<'a, S: Shelf<'a>>(
     add_nodes(area, &found, names, cells)
 }
 
-/// Adds the nodes that entries of the cell tree place in a box, and all that they place. `Form` where an entry isn't of its
-/// form.
+/// Adds the nodes that entries of the cell tree place in a box, and all that they place, with room made for all at once.
+/// `Form` where an entry isn't of its form.
 fn add_nodes(
     area: &BoxArea<'_>,
     found: &[Item<'_>],
@@ -153,6 +153,8 @@ fn add_nodes(
     ensures formed { OnOk result (HaveForm Cells (bindings_of found.now)) }
     ensures refused { IfErr result (AreMisread Cells (bindings_of found.now)) }
 {
+    names.reserve(found.len())?;
+    cells.reserve(found.len())?;
     for item in found {
         add_node(area, item, names, cells)?;
     }

@@ -38,6 +38,7 @@ mod print;
 mod question;
 mod reads;
 mod recursions;
+mod repetition;
 mod run;
 mod same_filters;
 mod select;

@@ -71,19 +71,20 @@ pub(crate) struct SelectMemo<'s, 'q> {
     places: BTreeMap<u64, usize>,
     /// All of them, in the order in which they were asked.
     pub(crate) remembered: Vec<RememberedSelect<'s, 'q>>,
-    /// How many more references there is room for.
+    /// What is remembered has fewer references than this. Where it is 0 nothing is.
     room: usize,
 }
 
 impl<'s, 'q> SelectMemo<'s, 'q> {
-    /// No statement was asked yet.
-    pub(crate) fn new(alloc: Global) -> SelectMemo<'s, 'q>
+    /// No statement was asked yet. For a query that asks none twice nothing is remembered, which saves most of what a
+    /// memo costs it.
+    pub(crate) fn new(alloc: Global, may_repeat: bool) -> SelectMemo<'s, 'q>
         ensures { result.remembered.items ≡ [] }
     {
         SelectMemo {
             places: BTreeMap::new(alloc),
             remembered: Vec::new(alloc),
-            room: ROOM,
+            room: if may_repeat { ROOM } else { 0 },
         }
     }
 
@@ -92,6 +93,9 @@ impl<'s, 'q> SelectMemo<'s, 'q> {
         ensures { IfSome result (λ one. Contains self.now.remembered.items one.now
             × AsksTheSame asked.now one.now.asked) }
     {
+        if self.remembered.is_empty() {
+            return None;
+        }
         let place = *self.places.get(&asked.number())?;
         if place >= self.remembered.len() {
             return None;
@@ -117,7 +121,7 @@ impl<'s, 'q> SelectMemo<'s, 'q> {
             → Contains self.old.remembered.items one ⊎ IsOf asked.entry found.value before after one }
     {
         let size = asked.size().saturating_add(found.as_slice().len());
-        if size > self.room || after == u128::MAX {
+        if size >= self.room || after == u128::MAX {
             return Ok(());
         }
         let number = asked.number();

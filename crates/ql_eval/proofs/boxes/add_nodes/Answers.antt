@@ -15,7 +15,7 @@ use Rattle.std.proofs.Common.{List}
 
 pub returns-in_err-add_node-clause-refused : goal.returns-in_err-add_node-clause-refused
 returns-in_err-add_node-clause-refused c =
-    refused_as (AreMisread Cells (bindings_of c.args.found.now)) c.from_residual.result _ c.from_residual.ensures.1
+    refused_as (AreMisread Cells (bindings_of c.args.found.now)) c.from_residual-in_err-add_node.result _ c.from_residual-in_err-add_node.ensures.1
     (misread_one Cells c.args.found.now c.loop-item.item-index _ _ c.loop-item-test.true c.in_err-add_node.ensures.refused)
 
 pub loop-item-preserved : goal.loop-item-preserved
