@@ -1,29 +1,30 @@
 -- How one tree changes, and all four.
-use Rattle.std.proofs.Common.{◌≡◌, ◌↔◌, ◌⊎◌, inl, inr, ℕ, ◌≤◌, List, [], ◌∷◌, ◌++◌, None, Result, Ok, Err, length, refl, sym, ap, subst, ◌∙◌}
+use Rattle.std.proofs.Common.{◌≡◌, ◌↔◌, ◌⊎◌, inl, inr, ℕ, List, [], ◌∷◌, ◌++◌, Result, Ok, Err, refl, sym, ap, subst, ◌∙◌}
 use Rattle.std.proofs.lemmas.List.{map-append}
 use Rattle.std.specs.Prelude.{IfErr}
 use Rattle.std.specs.Result.{IsErrAnd}
 use Rattle.osm_model.specs.Elements.{Element}
 use Rattle.tree_build.specs.Changing.{Change}
-use Rattle.tree_build.specs.Rebuilding.{AreDifferent, HoldsOldTree, IsAmong, IsOldTree, IsRebuilt, changed_entries, digests_of, keys_of_changes, nodes_of}
+use Rattle.tree_build.specs.Rebuilding.{AreDifferent, IsAmong, IsOldTree, IsRebuilt, changed_entries, digests_of, nodes_of}
+use Rattle.tree_build.specs.StrangeShelves.{HasNoTwin, IsRefusedFor, cause_of}
+use Rattle.tree_build.specs.declared.rebuild_fault.RebuildFault.{RebuildFault}
 use Rattle.tree_node.specs.declared.new_node.NewNode.{NewNode}
 use Rattle.tree_build.specs.declared.rebuilt.Rebuilt.{Rebuilt}
 use Rattle.tree_node.specs.Digests.{digest}
 use Rattle.tree_node.specs.NodeRefs.{number_of}
-use Rattle.tree_node.specs.Nodes.{AreRisingFrom, Binding}
+use Rattle.tree_node.specs.Nodes.{Binding}
+use Rattle.tree_node.specs.Outcomes.{RefusedFor}
+use Rattle.tree_node.proofs.shared.OutcomeLaws.{refused_more}
 use Rattle.tree_node.specs.Shelves.{IsClashFree}
 use Rattle.tree_node.specs.Trees.{IsNodeOf, Shape, Two, levels, top_of}
 use Rattle.tree_node.specs.declared.digest.Digest.{Digest}
-use Rattle.tree_node.specs.declared.limits.TheConstants.{ENTRY_LIMIT}
 use Rattle.tree_node.specs.declared.tree.Tree.{Tree}
 use Rattle.tree_node.specs.declared.tree.Tree.TheVariants.{Objects, Tags, Cells, Backs}
 use Rattle.osm_index.specs.Applying.{edition_after}
-use Rattle.osm_keys.specs.Entries.{AreEntriesOf}
 use Rattle.osm_keys.specs.Manifests.{top_among}
 use Rattle.osm_keys.specs.Publications.{IsPublicationOf, Publication, shape_in, top_in, tree_in}
-use Rattle.osm_index.specs.declared.apply_fault.ApplyFault.{ApplyFault}
 use Rattle.osm_index.specs.declared.changed_trees.ChangedTrees.{ChangedTrees}
-use Rattle.osm_index.specs.internal.ChangedTrees.{AreChangedTrees, AreHeldTrees, HoldsChanging, IsChangedTree}
+use Rattle.osm_index.specs.internal.ChangedTrees.{AreChangedTrees, AreHeldTrees, HoldsChanging, IsChangeOf, IsChangedTree}
 use Rattle.osm_index.specs.internal.Putting.{IsTreeNode}
 use Rattle.osm_keys.proofs.shared.EntriesFit.{has_tree}
 use Rattle.osm_index.proofs.TreeNodes.{is_tree, one_tree, second_shape, shape_after}
@@ -35,31 +36,26 @@ module _ (p : Publication) (removed puts set : List Element) (tree : Tree) (top 
   shape_is : shape_in p ≡ Two
   shape_is = second_shape p.edition h.second
 
-  pub old_tree : (changes : List (Change Binding)) → AreRisingFrom None (keys_of_changes changes) → length (changed_entries (p.entries tree) changes) ≤ ENTRY_LIMIT → AreEntriesOf set tree (changed_entries (p.entries tree) changes)
-      → IsOldTree held top changes (number_of tree) (p.entries tree)
-  old_tree changes rising few are = record {
+  own_node : (x : List ℕ) → IsNodeOf (levels Two (number_of tree) (p.entries tree)) x → IsNodeOf (tree_in p tree) x
+  own_node x n = subst (λ (s : Shape). IsNodeOf (levels s (number_of tree) (p.entries tree)) x) (sym shape_is) n
+
+  pub old_tree : (changes : List (Change Binding)) → IsChangeOf p set tree changes → IsOldTree held top changes (number_of tree) (p.entries tree)
+  old_tree changes is = record {
     is_tree = is_tree tree;
     has = lists_have_trees p h.holds.published tree;
     is_top = h.holds.is_top ∙ ap (λ (s : Shape). digest (top_of (levels s (number_of tree) (p.entries tree)))) shape_is;
-    holds = λ x is. h.holds.nodes x (subst (λ (s : Shape). IsNodeOf (levels s (number_of tree) (p.entries tree)) x) (sym shape_is) is);
-    rising = rising;
-    changed_has = has_tree set h.changed_set.set tree (changed_entries (p.entries tree) changes) are few;
+    holds = λ x n. h.holds.nodes x (own_node x n);
+    rising = is.rising;
+    changed_has = has_tree set h.changed_set.set tree (changed_entries (p.entries tree) changes) is.are is.few;
   }
 
--- held by another set, which has all that this one has
-pub held_too : (held other : List ℕ → Type 0) (top : List ℕ) (changes : List (Change Binding)) (tree : ℕ) (entries : List Binding) → ((x : List ℕ) → held x → other x)
-    → IsOldTree held top changes tree entries → IsOldTree other top changes tree entries
-held_too held other top changes tree entries more is = record {
-  is_tree = is.is_tree;
-  has = is.has;
-  is_top = is.is_top;
-  holds = λ x n. more x (is.holds x n);
-  rising = is.rising;
-  changed_has = is.changed_has;
-}
+  -- no two of its nodes have one digest, where no two of all trees have
+  pub old_free : IsClashFree (IsTreeNode p) → IsClashFree (IsNodeOf (levels Two (number_of tree) (p.entries tree)))
+  old_free free a b is_a is_b same = free a b (tree, own_node a is_a) (tree, own_node b is_b) same
 
-pub holds_too : (held other : List ℕ → Type 0) (top : List ℕ) (changes : List (Change Binding)) → ((x : List ℕ) → held x → other x) → HoldsOldTree held top changes → HoldsOldTree other top changes
-holds_too held other top changes more old = record { tree = old.tree; entries = old.entries; is = held_too held other top changes old.tree old.entries more old.is }
+  -- a refusal over its nodes is one over those of all trees
+  pub told_of_all : (there : List ℕ → Type 0) (fault : RebuildFault) → IsRefusedFor (levels Two (number_of tree) (p.entries tree)) there fault → RefusedFor (IsTreeNode p) there (cause_of fault)
+  told_of_all there fault is = refused_more (IsNodeOf (levels Two (number_of tree) (p.entries tree))) (IsTreeNode p) there (cause_of fault) (λ x n. (tree, own_node x n)) is
 
 -- ---- lists of byte strings, one after the other
 
@@ -110,7 +106,7 @@ module _ (of : Tree → List (List ℕ)) where
 
 -- ---- the four trees of a publication
 
-module _ (p : Publication) (removed puts set : List Element) (tops : List Digest) (held : List ℕ → Type 0) (free : IsClashFree held) (h : AreHeldTrees p removed puts set tops held)
+module _ (p : Publication) (removed puts set : List Element) (tops : List Digest) (held : List ℕ → Type 0) (free : IsClashFree (IsTreeNode p)) (h : AreHeldTrees p removed puts set tops held)
     (news : Tree → List Binding) (rebuilt : Tree → Rebuilt) (are : (tree : Tree) → IsChangedTree set tree (p.entries tree) (news tree) (rebuilt tree)) where
   abbrev pub new : Publication
   new = record { objects = set; edition = edition_after p.edition; entries = news }
@@ -160,7 +156,7 @@ module _ (p : Publication) (removed puts set : List Element) (tops : List Digest
   gone_once = joined_once gone_in (λ tree. (rebuilds tree).gone_once) (λ key t u is is_too.
       let (x, was, isnt, e) = ((rebuilds t).gone key).0 is in
       let (y, was_too, isnt_too, f) = ((rebuilds u).gone key).0 is_too in
-      let same : x ≡ y = free x y (h.nodes x (t, was)) (h.nodes y (u, was_too)) (sym e ∙ f) in
+      let same : x ≡ y = free x y (t, was) (u, was_too) (sym e ∙ f) in
       one_tree p p t u x was (subst (λ (z : List ℕ). IsNodeOf (tree_in p u) z) (sym same) was_too))
 
   tops_in : (tree : Tree) → top_among ((rebuilt Objects).top ∷ (rebuilt Tags).top ∷ (rebuilt Cells).top ∷ (rebuilt Backs).top ∷ []) tree ≡ top_in new tree
@@ -201,7 +197,7 @@ each_tree a b c d Backs = d
 abbrev pub BecameOne : Publication → List Element → Tree → Rebuilt → Type 0
 BecameOne p set tree rebuilt = (new : List Binding) × IsChangedTree set tree (p.entries tree) new rebuilt
 
-pub four_changed : (p : Publication) (removed puts set : List Element) (tops : List Digest) (held : List ℕ → Type 0) → IsClashFree held → AreHeldTrees p removed puts set tops held → (a b c d : Rebuilt)
+pub four_changed : (p : Publication) (removed puts set : List Element) (tops : List Digest) (held : List ℕ → Type 0) → IsClashFree (IsTreeNode p) → AreHeldTrees p removed puts set tops held → (a b c d : Rebuilt)
     → BecameOne p set Objects a → BecameOne p set Tags b → BecameOne p set Cells c → BecameOne p set Backs d → (trees : ChangedTrees)
     → trees.tops ≡ a.top ∷ b.top ∷ c.top ∷ d.top ∷ [] → trees.added.items ≡ ((a.added.items ++ b.added.items) ++ c.added.items) ++ d.added.items → trees.gone.items ≡ ((a.gone.items ++ b.gone.items) ++ c.gone.items) ++ d.gone.items
     → (q : Publication) × IsPublicationOf set (edition_after p.edition) q × AreChangedTrees p q trees
@@ -222,7 +218,46 @@ one_of_four p removed puts set tops held h tree = record {
   changed_set = h.changed_set;
 }
 
+-- ---- one of the four is rebuilt over a shelf
+
+-- what the shelf used, the digest of the old top, and how the entries change: what was rebuilt, and why it wasn't
+abbrev pub Rebuilds : (List ℕ → Type 0) → List ℕ → List (Change Binding) → Rebuilt → Type 0
+Rebuilds used top changes rebuilt =
+    (tree : ℕ) (entries : List Binding) → IsOldTree (HasNoTwin used) top changes tree entries → IsClashFree (IsNodeOf (levels Two tree entries)) → IsRebuilt (levels Two tree entries) (levels Two tree (changed_entries entries changes)) rebuilt
+
+abbrev pub Refuses : (List ℕ → Type 0) → (List ℕ → Type 0) → List ℕ → List (Change Binding) → RebuildFault → Type 0
+Refuses there used top changes fault = (tree : ℕ) (entries : List Binding) → IsOldTree (HasNoTwin used) top changes tree entries → IsRefusedFor (levels Two tree entries) there fault
+
+module _ (p : Publication) (removed puts set : List Element) (tops : List Digest) (used : List ℕ → Type 0) (h : AreHeldTrees p removed puts set tops (HasNoTwin used)) (tree : Tree) (changes : List (Change Binding))
+    (is : IsChangeOf p set tree changes) (given : List (Change Binding)) (same : given ≡ changes) where
+  one : HoldsChanging p removed puts set tree (top_among tops tree) (HasNoTwin used)
+  one = one_of_four p removed puts set tops (HasNoTwin used) h tree
+
+  old : IsOldTree (HasNoTwin used) (top_among tops tree) changes (number_of tree) (p.entries tree)
+  old = old_tree p removed puts set tree (top_among tops tree) (HasNoTwin used) one changes is
+
+  pub became : IsClashFree (IsTreeNode p) → (rebuilt : Rebuilt) → Rebuilds used (top_among tops tree) given rebuilt → BecameOne p set tree rebuilt
+  became free rebuilt rebuilds =
+      let rebuilds_too = subst (λ (cs : List (Change Binding)). Rebuilds used (top_among tops tree) cs rebuilt) same rebuilds in
+      let so = rebuilds_too (number_of tree) (p.entries tree) old (old_free p removed puts set tree (top_among tops tree) (HasNoTwin used) one free) in
+      (changed_entries (p.entries tree) changes, record { are = is.are; few = is.few; is = so })
+
+  pub refused_one : (there : List ℕ → Type 0) (fault : RebuildFault) → Refuses there used (top_among tops tree) given fault → RefusedFor (IsTreeNode p) there (cause_of fault)
+  refused_one there fault refuses =
+      let refuses_too = subst (λ (cs : List (Change Binding)). Refuses there used (top_among tops tree) cs fault) same refuses in
+      told_of_all p removed puts set tree (top_among tops tree) (HasNoTwin used) one there fault (refuses_too (number_of tree) (p.entries tree) old)
+
+-- trees of whose nodes none has a twin among some have none among fewer
+pub trees_before : (p : Publication) (removed puts set : List Element) (tops : List Digest) (few many : List ℕ → Type 0) → ((x : List ℕ) → few x → many x) → AreHeldTrees p removed puts set tops (HasNoTwin many) → AreHeldTrees p removed puts set tops (HasNoTwin few)
+trees_before p removed puts set tops few many more h = record {
+  published = h.published;
+  second = h.second;
+  tops_are = h.tops_are;
+  nodes = λ x is other uses same. h.nodes x is other (more other uses) same;
+  changed_set = h.changed_set;
+}
+
 -- a refusal that is passed on
-pub refused_as : {A : Type 0} (Says : ApplyFault → Type 0) (result : Result A ApplyFault) (fault : ApplyFault) → IsErrAnd result (λ f. f ≡ fault) → Says fault → IfErr result Says
+pub refused_as : {A F : Type 0} (Says : F → Type 0) (result : Result A F) (fault : F) → IsErrAnd result (λ f. f ≡ fault) → Says fault → IfErr result Says
 refused_as Says (Ok value) fault is says = tt
 refused_as Says (Err f) fault is says = subst Says (sym is) says

@@ -10,7 +10,6 @@ use Rattle.osm_model.specs.Limits.{IsElement}
 use Rattle.osm_model.specs.Sets.{HasDistinctReferences, IsObjectSet}
 use Rattle.tree_node.specs.NodeRefs.{binding_of, bindings_of}
 use Rattle.tree_node.specs.Nodes.{Binding}
-use Rattle.tree_node.specs.Shelves.{SameNodes}
 use Rattle.tree_node.specs.declared.item.Item.{Item}
 use Rattle.tree_node.specs.declared.tree.Tree.TheVariants.{Objects}
 use Rattle.tree_walk.specs.Choices.{AreThose}
@@ -19,8 +18,8 @@ use Rattle.tree_walk.specs.Walks.{IsEntryIn}
 use Rattle.osm_keys.specs.Entries.{object_entry}
 use Rattle.osm_keys.specs.Publications.{IsPublication, Publication}
 use Rattle.osm_keys.specs.Ranges.{under_all}
-use Rattle.osm_index.specs.internal.HeldTrees.{AreObjectEntries, HoldsTree}
-use Rattle.osm_index.proofs.HeldTreeLemmas.{all_those, held_along, in_all_keys}
+use Rattle.osm_index.specs.internal.HeldTrees.{AreObjectEntries}
+use Rattle.osm_index.proofs.HeldTreeLemmas.{all_those, in_all_keys}
 use Rattle.osm_index.proofs.SnapshotLemmas.{objects_listed}
 use Rattle.osm_index.proofs.shared.ChangeLaws.{one_set}
 
@@ -48,11 +47,11 @@ pub publication_entries : (p : Publication) → IsPublication p → (entries : L
 publication_entries p is entries same = record { elements = is.set.elements; entries_are = same ∙ objects_listed p is }
 
 -- the entries that are read in the range of all keys
-pub all_read : (p : Publication) (top : List ℕ) (old new : List ℕ → Type 0) → SameNodes old new → HoldsTree p Objects top old → (keys : Range) → keys ≡ under_all [] → (found lent : List Item) → lent ≡ found
-    → (HoldsTree p Objects top new → AreThose (IsEntryIn keys) (p.entries Objects) (bindings_of found)) → AreObjectEntries p.objects (bindings_of lent)
-all_read p top old new same holds keys is found lent one read =
-    let those = all_those (IsEntryIn keys) (p.entries Objects) (bindings_of found) (in_all_keys keys is) (read (held_along p Objects top old new same holds)) in
-    publication_entries p holds.published (bindings_of lent) (ap (λ (es : List Item). bindings_of es) one ∙ those)
+pub all_read : (p : Publication) → IsPublication p → (keys : Range) → keys ≡ under_all [] → (found lent : List Item) → lent ≡ found
+    → AreThose (IsEntryIn keys) (p.entries Objects) (bindings_of found) → AreObjectEntries p.objects (bindings_of lent)
+all_read p published keys is found lent one read =
+    let those = all_those (IsEntryIn keys) (p.entries Objects) (bindings_of found) (in_all_keys keys is) read in
+    publication_entries p published (bindings_of lent) (ap (λ (es : List Item). bindings_of es) one ∙ those)
 
 pub set_apart : (objects : List Element) → IsObjectSet objects → HasDistinctReferences objects
 set_apart objects set = IsDistinct-from_sorted ref_cmp (references objects) set.rising

@@ -1,48 +1,49 @@
--- Walks over trees that a stock holds: memory alone refuses them.
+-- Walks over trees that a shelf may hold.
 use Rattle.std.proofs.Common.{Bool, ◌≡◌, ℕ, List, [], ◌∷◌, length, Result, inl, inr, suc, refl, sym, ap, subst, ◌∙◌}
 use Rattle.tree_node.specs.NodeRefs.{number_of}
-use Rattle.tree_node.specs.Nodes.{Binding}
-use Rattle.tree_node.specs.Outcomes.{Cause, EndsWell, NoMemory, Outcome}
-use Rattle.tree_node.specs.Recorders.{RecorderHolds, RecorderUsed}
-use Rattle.tree_node.specs.Shelves.{SameNodes, Stays}
-use Rattle.tree_node.specs.declared.recorder.Recorder.{Recorder}
+use Rattle.tree_build.specs.StrangeShelves.{HasNoTwin, IsRefusedFor, cause_of as rebuild_cause}
+use Rattle.tree_build.specs.declared.rebuild_fault.RebuildFault.{RebuildFault}
+use Rattle.tree_build.specs.declared.rebuild_fault.RebuildFault.TheVariants.{Memory}
+use Rattle.tree_node.specs.Nodes.{Binding, Node}
+use Rattle.tree_node.specs.Trees.{IsNodeOf}
+use Rattle.tree_node.specs.Outcomes.{Cause, EndsBy, Outcome, RefusedFor}
+use Rattle.tree_node.specs.Shelves.{Stays}
 use Rattle.tree_node.specs.declared.tree.Tree.{Tree}
-use Rattle.tree_node.proofs.shared.OutcomeLaws.{honest, uses}
-use Rattle.tree_node.proofs.shared.StockLaws.{recorder_used, stock_free}
+use Rattle.tree_node.proofs.shared.OutcomeLaws.{refused_more, uses}
 use Rattle.tree_walk.specs.Choices.{AreThose, IsCount}
 use Rattle.tree_walk.specs.Fetches.{cause_of}
 use Rattle.tree_walk.specs.Ranges.{Range}
 use Rattle.tree_walk.specs.Walks.{IsEntryIn, IsMet, IsMetCounted, IsTopOf}
 use Rattle.tree_walk.specs.declared.fault.WalkFault.{WalkFault}
-use Rattle.tree_walk.specs.declared.fault.WalkFault.TheVariants as walks
 use Rattle.osm_keys.specs.Publications.{Publication, shape_in, tree_in}
 use Rattle.osm_keys.specs.Ranges.{under_all}
-use Rattle.osm_index.specs.internal.HeldTrees.{HoldsSome, HoldsTree}
+use Rattle.osm_index.specs.internal.HeldTrees.{HoldsTree}
 use Rattle.osm_keys.proofs.shared.EntryBytes.{is_top}
 use Rattle.osm_keys.proofs.shared.RangeLaws.{in_under}
 
--- a call that needs only nodes of the shelf's stock ends well
-pub ends_well : {fixed : Bool} {A F : Type 0} {cause : F → Cause} {Is : A → Type 0} {needed : List ℕ → Type 0} {result : Result A F} (old new : Recorder)
-    → Stays fixed (RecorderHolds old) (RecorderHolds new) → ((x : List ℕ) → needed x → RecorderHolds old x)
-    → Outcome cause Is needed (uses (RecorderHolds new) (RecorderUsed old) (RecorderUsed new)) result → EndsWell cause Is needed (uses (RecorderHolds new) (RecorderUsed old) (RecorderUsed new)) result
-ends_well old new stays all so = honest (stock_free new.stock.now) (λ x needs. (stays x).1 (all x needs)) (recorder_used new) so
+-- a call of whose needed nodes none has a twin among the used ones ends as it should, or is refused for one that isn't held
+pub alone_ends : {A F : Type 0} {cause : F → Cause} {Is : A → Type 0} {needed held old : List ℕ → Type 0} {result : Result A F} (used : List ℕ → Type 0) → ((x : List ℕ) → needed x → HasNoTwin used x)
+    → Outcome cause Is needed (uses held old used) result → EndsBy cause Is needed (uses held old used) result
+alone_ends used alone so = elim so.ends [
+  | inl (a, b, needs, uses_it, differ, same) ↦ absurd (differ (sym (alone a needs b uses_it (sym same))))
+  | inr ends ↦ ends
+]
 
-pub same_then : (old mid new : List ℕ → Type 0) → SameNodes old mid → SameNodes mid new → SameNodes old new
-same_then old mid new first next x = ((λ h. (first x).0 ((next x).0 h)), (λ h. (next x).1 ((first x).1 h)))
+-- a refusal for a node that is needed, told as one of the tree
+pub refused_in : {needed : List ℕ → Type 0} (tree : List (List Node)) (held : List ℕ → Type 0) (told : RebuildFault) (fault : WalkFault) → rebuild_cause told ≡ cause_of fault → ((x : List ℕ) → needed x → IsNodeOf tree x)
+    → RefusedFor needed held (cause_of fault) → IsRefusedFor tree held told
+refused_in {needed} tree held told fault same more so = subst (λ (c : Cause). RefusedFor (IsNodeOf tree) held c) (sym same) (refused_more needed (IsNodeOf tree) held (cause_of fault) more so)
 
--- a tree is held by a set of the same nodes
-pub held_along : (p : Publication) (tree : Tree) (top : List ℕ) (old new : List ℕ → Type 0) → SameNodes old new → HoldsTree p tree top old → HoldsTree p tree top new
-held_along p tree top old new same holds = record { published = holds.published; is_top = holds.is_top; nodes = λ x is. (same x).1 (holds.nodes x is) }
+-- memory was refused
+pub memory_told : (tree : List (List Node)) (held : List ℕ → Type 0) (fault : RebuildFault) → fault ≡ Memory → IsRefusedFor tree held fault
+memory_told tree held fault is = subst (λ (f : RebuildFault). IsRefusedFor tree held f) (sym is) tt
 
-pub some_held_along : (tree : Tree) (top : List ℕ) (old new : List ℕ → Type 0) → SameNodes old new → HoldsSome tree top old → HoldsSome tree top new
-some_held_along tree top old new same (p, holds) = (p, held_along p tree top old new same holds)
+-- a tree of whose nodes none has a twin among some has none among fewer
+pub alone_before : (p : Publication) (tree : Tree) (top : List ℕ) (few many : List ℕ → Type 0) → ((x : List ℕ) → few x → many x) → HoldsTree p tree top (HasNoTwin many) → HoldsTree p tree top (HasNoTwin few)
+alone_before p tree top few many more holds = record { published = holds.published; is_top = holds.is_top; nodes = λ x is other uses same. holds.nodes x is other (more other uses) same }
 
-pub memory_is : (fault : WalkFault) → cause_of fault ≡ NoMemory → fault ≡ walks.Memory
-memory_is walks.Missing e = Prim.cc
-memory_is (walks.Malformed fault) e = Prim.cc
-memory_is walks.WrongTreeOrLevel e = Prim.cc
-memory_is walks.Disagrees e = Prim.cc
-memory_is walks.Memory e = refl
+pub stays_then : (fixed : Bool) (a b c : List ℕ → Type 0) → Stays fixed a b → Stays fixed b c → Stays fixed a c
+stays_then fixed a b c one two = λ x. ((λ same h. (one x).0 same ((two x).0 same h)), (λ h. (two x).1 ((one x).1 h)))
 
 module _ (p : Publication) (tree : Tree) (top : List ℕ) (held : List ℕ → Type 0) (holds : HoldsTree p tree top held) where
   -- a walk may begin with its top
@@ -55,6 +56,13 @@ module _ (p : Publication) (tree : Tree) (top : List ℕ) (held : List ℕ → T
 
   pub counted_held : (range : Range) (x : List ℕ) → IsMetCounted range (tree_in p tree) x → held x
   counted_held range x (level, place, stands, meets, uncovered) = holds.nodes x (level, place, stands)
+
+module _ (p : Publication) (tree : Tree) where
+  pub met_of : (range : Range) (x : List ℕ) → IsMet range (tree_in p tree) x → IsNodeOf (tree_in p tree) x
+  met_of range x (level, place, stands, meets) = (level, place, stands)
+
+  pub counted_of : (range : Range) (x : List ℕ) → IsMetCounted range (tree_in p tree) x → IsNodeOf (tree_in p tree) x
+  counted_of range x (level, place, stands, meets, uncovered) = (level, place, stands)
 
 -- every entry is in the range of all keys
 pub in_all_keys : (range : Range) → range ≡ under_all [] → (b : Binding) → IsEntryIn range b

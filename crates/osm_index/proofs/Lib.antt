@@ -15,7 +15,6 @@ pub mod ItemLemmas
 pub mod TurnLemmas
 pub mod OneOwner
 pub mod ChangedSetLemmas
-pub mod OldTreeLemmas
 pub mod HeldTreeLemmas
 pub mod NamedLemmas
 pub mod TreeNodes
@@ -23,6 +22,8 @@ pub mod ChangeTreeLemmas
 pub mod SetLemmas
 pub mod AppliedLemmas
 pub mod UpdateLemmas
+pub mod ToldLemmas
+pub mod PlanLemmas
 pub mod SnapshotLemmas
 pub mod ApplyLemmas
 pub mod TakenOver

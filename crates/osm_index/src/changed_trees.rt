@@ -1,23 +1,19 @@
 //! Changing the four trees of a set of objects.
 
-ghost use Rattle.std.specs.Prelude.{◌≡◌, ◌⊎◌, ◌++◌, ◌∷◌, [], ◌≤◌, List, IfErr, IfOk, MatchOption, None, OnOk, length, ⊤};
+ghost use Rattle.std.specs.Prelude.{◌≡◌, ◌++◌, ◌∷◌, [], ℕ, List, IfErr, IfOk, OnOk};
 ghost use Rattle.osm_model.specs.Elements.{Element};
-ghost use Rattle.tree_build.specs.Rebuilding.{changed_entries, changes_of, keys_of_changes};
-ghost use Rattle.tree_node.specs.Nodes.{AreRisingFrom, Binding};
-ghost use Rattle.tree_node.specs.Stocks.{HasNode};
+ghost use Rattle.tree_build.specs.StrangeShelves.{HasNoTwin, cause_of};
+ghost use Rattle.tree_node.specs.Outcomes.{RefusedFor};
+ghost use Rattle.tree_node.specs.Shelves.{IsClashFree, Stays};
 ghost use Rattle.osm_index.specs.Applying.{edition_after};
-ghost use Rattle.osm_keys.specs.Entries.{AreEntriesOf};
-ghost use Rattle.osm_keys.specs.Publications.{HasTooMany, IsPublicationOf, Publication};
-ghost use Rattle.osm_index.specs.internal.ChangedTrees.{AreChangedTrees, AreHeldTrees, AreSomeHeldTrees, HoldsChanging, HoldsSomeChanging, IsChangedTree};
+ghost use Rattle.osm_keys.specs.Publications.{IsPublicationOf, Publication};
+ghost use Rattle.osm_index.specs.internal.ChangedTrees.{AreChangedTrees, AreChangesOf, AreHeldTrees};
+ghost use Rattle.osm_index.specs.internal.Putting.{IsTreeNode};
 
-use crate::apply_fault::ApplyFault;
-use crate::entry_changes::entry_changes;
-use crate::held_tree::entry_count;
-use crate::listing::entries_of;
-use osm_model::ObjectSet;
+use crate::tree_changes::TreeChanges;
 use std::alloc::{AllocError, Global};
-use tree_build::{EntryChange, RebuildFault, Rebuilt, rebuild};
-use tree_node::{Digest, ENTRY_LIMIT, NewNode, Stock, Tree};
+use tree_build::{RebuildFault, Rebuilt, rebuild};
+use tree_node::{Digest, NewNode, Shelf};
 
 /// What changing the four trees gives.
 #[derive(Drop)]
@@ -30,32 +26,29 @@ pub(crate) struct ChangedTrees {
     pub(crate) gone: Vec<Digest>,
 }
 
-/// Changes the four trees, whose tops have these digests and which the stock holds: the old objects go, and the
-/// others are put.
-///
-/// Refused with `TooMany` where a tree would have more than 2^29 entries, or out of memory.
-pub(crate) fn change_trees(
+/// Changes the four trees under these tops.
+pub(crate) fn change_trees<'a, S: Shelf<'a>>(
     alloc: Global,
-    removed: &ObjectSet,
-    puts: &ObjectSet,
+    shelf: &mut S,
     tops: &[Digest; 4],
-    stock: &Stock,
-) -> Result<ChangedTrees, ApplyFault>
-    requires { ∥ AreSomeHeldTrees removed.now puts.now tops.now (HasNode stock.now) ∥₁ }
-    ensures changed { (p : Publication) (set : List Element)
-        → AreHeldTrees p removed.now puts.now set tops.now (HasNode stock.now)
+    changes: &'a TreeChanges,
+) -> Result<ChangedTrees, RebuildFault>
+    ensures stays { Stays S.is_fixed (S.holds shelf.old) (S.holds shelf.new) }
+    ensures grows { (bytes : List ℕ) → S.used shelf.old bytes → S.used shelf.new bytes }
+    ensures changed { (p : Publication) (removed puts set : List Element)
+        → AreHeldTrees p removed puts set tops.now (HasNoTwin (S.used shelf.new))
+        → IsClashFree (IsTreeNode p) → AreChangesOf p set changes.now
         → IfOk result (λ trees. (q : Publication) × IsPublicationOf set (edition_after p.edition) q
         × AreChangedTrees p q trees) }
-    ensures refused { IfErr result (λ fault. (fault ≡ ApplyFault.Memory)
-        ⊎ (fault ≡ ApplyFault.TooMany)) }
-    ensures too_many { (p : Publication) (set : List Element)
-        → AreHeldTrees p removed.now puts.now set tops.now (HasNode stock.now)
-        → IfErr result (λ fault. fault ≡ ApplyFault.TooMany → HasTooMany set) }
+    ensures told { (p : Publication) (removed puts set : List Element)
+        → AreHeldTrees p removed puts set tops.now (HasNoTwin (S.used shelf.new))
+        → AreChangesOf p set changes.now
+        → IfErr result (λ fault. RefusedFor (IsTreeNode p) (S.holds shelf.new) (cause_of fault)) }
 {
-    let objects = change_tree(alloc, removed, puts, Tree::Objects, &tops[0], stock)?;
-    let tags = change_tree(alloc, removed, puts, Tree::Tags, &tops[1], stock)?;
-    let cells = change_tree(alloc, removed, puts, Tree::Cells, &tops[2], stock)?;
-    let backs = change_tree(alloc, removed, puts, Tree::Backs, &tops[3], stock)?;
+    let objects = rebuild(alloc, shelf, &tops[0], &changes.objects)?;
+    let tags = rebuild(alloc, shelf, &tops[1], &changes.tags)?;
+    let cells = rebuild(alloc, shelf, &tops[2], &changes.cells)?;
+    let backs = rebuild(alloc, shelf, &tops[3], &changes.backs)?;
     Ok(all_of(objects, tags, cells, backs)?)
 }
 
@@ -97,74 +90,4 @@ fn append(
     let mut nodes = nodes;
     added.append(&mut nodes)?;
     gone.extend_from_slice(&digests)
-}
-
-/// Changes one tree, whose top has this digest and which the stock holds.
-fn change_tree(
-    alloc: Global,
-    removed: &ObjectSet,
-    puts: &ObjectSet,
-    tree: Tree,
-    top: &Digest,
-    stock: &Stock,
-) -> Result<Rebuilt, ApplyFault>
-    requires { ∥ HoldsSomeChanging removed.now puts.now tree top.now.0 (HasNode stock.now) ∥₁ }
-    ensures changed { (p : Publication) (set : List Element)
-        → HoldsChanging p removed.now puts.now set tree top.now.0 (HasNode stock.now)
-        → IfOk result
-        (λ rebuilt. (new : List Binding) × IsChangedTree set tree (p.entries tree) new rebuilt) }
-    ensures refused { IfErr result (λ fault. (fault ≡ ApplyFault.Memory)
-        ⊎ (fault ≡ ApplyFault.TooMany)) }
-    ensures too_many { (p : Publication) (set : List Element)
-        → HoldsChanging p removed.now puts.now set tree top.now.0 (HasNode stock.now)
-        → IfErr result (λ fault. fault ≡ ApplyFault.TooMany → HasTooMany set) }
-{
-    let Some(changes) = tree_changes(alloc, removed, puts, tree, top, stock)? else {
-        return Err(ApplyFault::TooMany);
-    };
-    let mut shelf = stock.shelf(alloc);
-    match rebuild(alloc, &mut shelf, top, &changes) {
-        Ok(rebuilt) => Ok(rebuilt),
-        Err(fault) => Err(refusal(fault)),
-    }
-}
-
-/// What refuses a tree that the stock holds.
-fn refusal(fault: RebuildFault) -> ApplyFault
-    requires { fault ≡ RebuildFault.Memory }
-    ensures { result ≡ ApplyFault.Memory }
-{
-    match fault {
-        RebuildFault::Memory => ApplyFault::Memory,
-        RebuildFault::Missing | RebuildFault::NoTree => unreachable!(),
-    }
-}
-
-/// How the entries of a tree change, by rising key; none where they would be more than 2^29.
-fn tree_changes(
-    alloc: Global,
-    removed: &ObjectSet,
-    puts: &ObjectSet,
-    tree: Tree,
-    top: &Digest,
-    stock: &Stock,
-) -> Result<Option<Vec<EntryChange>>, AllocError>
-    requires { ∥ HoldsSomeChanging removed.now puts.now tree top.now.0 (HasNode stock.now) ∥₁ }
-    ensures rising { IfOk result (λ found. MatchOption found ⊤
-        (λ all. AreRisingFrom None (keys_of_changes (changes_of all.items)))) }
-    ensures changed { (p : Publication) (set : List Element)
-        → HoldsChanging p removed.now puts.now set tree top.now.0 (HasNode stock.now)
-        → IfOk result (λ found. MatchOption found (HasTooMany set)
-        (λ all. (length (changed_entries (p.entries tree) (changes_of all.items)) ≤ ENTRY_LIMIT)
-        × AreEntriesOf set tree (changed_entries (p.entries tree) (changes_of all.items)))) }
-{
-    let old = entries_of(alloc, removed, tree)?;
-    let new = entries_of(alloc, puts, tree)?;
-    let old = old.sorted(alloc)?;
-    let new = new.sorted(alloc)?;
-    let others = entry_count(alloc, tree, top, stock)? - old.len() as u64;
-    if others + new.len() as u64 > ENTRY_LIMIT as u64 {
-        return Ok(None);
-    }
-    Ok(Some(entry_changes(alloc, &old, &new)?))
 }

@@ -1,63 +1,68 @@
-//! Reading the entries of a tree that a stock holds: memory alone refuses it.
+//! Reading the entries of a tree from a shelf.
 
-ghost use Rattle.std.specs.Prelude.{◌≡◌, [], IfOk, length};
+ghost use Rattle.std.specs.Prelude.{◌≡◌, [], ℕ, List, IfErr, IfOk, length};
+ghost use Rattle.tree_build.specs.StrangeShelves.{HasNoTwin, IsRefusedFor, cause_of};
 ghost use Rattle.tree_node.specs.NodeRefs.{bindings_of};
-ghost use Rattle.tree_node.specs.Outcomes.{NoMemory};
-ghost use Rattle.tree_node.specs.Recorders.{RecorderHolds};
-ghost use Rattle.tree_node.specs.Shelves.{SameNodes};
-ghost use Rattle.tree_node.specs.Stocks.{HasNode};
+ghost use Rattle.tree_node.specs.Shelves.{Stays};
 ghost use Rattle.tree_walk.specs.Choices.{AreThose};
-ghost use Rattle.tree_walk.specs.Fetches.{cause_of};
+ghost use Rattle.tree_walk.specs.Fetches.{cause_of as walk_cause};
 ghost use Rattle.tree_walk.specs.Ranges.{IsIn, range_of};
 ghost use Rattle.tree_walk.specs.Walks.{IsEntryIn};
-ghost use Rattle.osm_keys.specs.Publications.{Publication};
+ghost use Rattle.osm_keys.specs.Publications.{Publication, tree_in};
 ghost use Rattle.osm_keys.specs.Ranges.{under_all};
-ghost use Rattle.osm_index.specs.internal.HeldTrees.{HoldsSome, HoldsTree};
+ghost use Rattle.osm_index.specs.internal.HeldTrees.{HoldsTree};
 
-use std::alloc::{AllocError, Global};
-use tree_node::{Digest, Recorder, Stock, Tree};
+use std::alloc::Global;
+use tree_build::RebuildFault;
+use tree_node::{Digest, Shelf, Tree};
 use tree_walk::{Item, KeyRange, Tally, WalkFault, count, range};
 
-/// The entries of a tree in a range of keys, in the order of their keys. The shelf is over a stock that holds the
-/// tree, whose top has this digest.
-pub(crate) fn entries_in<'a>(
+/// The entries of the tree under this top in a range of keys, in the order of their keys.
+pub(crate) fn entries_in<'a, S: Shelf<'a>>(
     alloc: Global,
-    shelf: &mut Recorder<'a>,
+    shelf: &mut S,
     tree: Tree,
     top: &Digest,
     keys: &KeyRange<'_>,
-) -> Result<Vec<Item<'a>>, AllocError>
-    requires some { IsIn (range_of keys.now) keys.now.lo.now }
-    requires held { ∥ HoldsSome tree top.now.0 (RecorderHolds shelf.old) ∥₁ }
-    ensures found { (p : Publication) → HoldsTree p tree top.now.0 (RecorderHolds shelf.old)
+) -> Result<Vec<Item<'a>>, RebuildFault>
+    requires { IsIn (range_of keys.now) keys.now.lo.now }
+    ensures stays { Stays S.is_fixed (S.holds shelf.old) (S.holds shelf.new) }
+    ensures grows { (bytes : List ℕ) → S.used shelf.old bytes → S.used shelf.new bytes }
+    ensures found { (p : Publication)
+        → HoldsTree p tree top.now.0 (HasNoTwin (S.used shelf.new))
         → IfOk result
         (λ found. AreThose (IsEntryIn (range_of keys.now)) (p.entries tree) (bindings_of found.items)) }
-    ensures stays { SameNodes (RecorderHolds shelf.old) (RecorderHolds shelf.new) }
+    ensures told { (p : Publication)
+        → HoldsTree p tree top.now.0 (HasNoTwin (S.used shelf.new))
+        → IfErr result (IsRefusedFor (tree_in p tree) (S.holds shelf.new)) }
 {
     let mut tally = Tally::default();
     match range(alloc, shelf, top, tree, keys, &mut tally) {
         Ok(found) => Ok(found),
-        Err(fault) => Err(memory_alone(fault)),
+        Err(fault) => Err(fault_of(fault)),
     }
 }
 
-/// The number of the entries of a tree, whose top has this digest and which the stock holds: read from the
-/// nodes on the way from the top to the first leaf.
-pub(crate) fn entry_count(
+/// The number of the entries of the tree under this top: read from the nodes on the way from the top to the first leaf.
+pub(crate) fn entry_count<'a, S: Shelf<'a>>(
     alloc: Global,
+    shelf: &mut S,
     tree: Tree,
     top: &Digest,
-    stock: &Stock,
-) -> Result<u64, AllocError>
-    requires { ∥ HoldsSome tree top.now.0 (HasNode stock.now) ∥₁ }
-    ensures { (p : Publication) → HoldsTree p tree top.now.0 (HasNode stock.now)
+) -> Result<u64, RebuildFault>
+    ensures stays { Stays S.is_fixed (S.holds shelf.old) (S.holds shelf.new) }
+    ensures grows { (bytes : List ℕ) → S.used shelf.old bytes → S.used shelf.new bytes }
+    ensures number { (p : Publication)
+        → HoldsTree p tree top.now.0 (HasNoTwin (S.used shelf.new))
         → IfOk result (λ number. number ≡ length (p.entries tree)) }
+    ensures told { (p : Publication)
+        → HoldsTree p tree top.now.0 (HasNoTwin (S.used shelf.new))
+        → IfErr result (IsRefusedFor (tree_in p tree) (S.holds shelf.new)) }
 {
-    let mut shelf = stock.shelf(alloc);
     let mut tally = Tally::default();
-    match count(alloc, &mut shelf, top, tree, &all_keys(), &mut tally) {
+    match count(alloc, shelf, top, tree, &all_keys(), &mut tally) {
         Ok(number) => Ok(number),
-        Err(fault) => Err(memory_alone(fault)),
+        Err(fault) => Err(fault_of(fault)),
     }
 }
 
@@ -73,12 +78,15 @@ pub(crate) fn all_keys() -> KeyRange<'static>
     }
 }
 
-/// The refusal of a walk over a tree that the stock holds: memory alone refuses it.
-fn memory_alone(fault: WalkFault) -> AllocError
-    requires { ∥ cause_of fault ≡ NoMemory ∥₁ }
+/// What refuses a walk over a tree.
+fn fault_of(fault: WalkFault) -> RebuildFault
+    ensures { cause_of result ≡ walk_cause fault }
 {
     match fault {
-        WalkFault::Memory => AllocError,
-        _ => unreachable!("the stock holds the tree"),
+        WalkFault::Missing => RebuildFault::Missing,
+        WalkFault::Memory => RebuildFault::Memory,
+        WalkFault::Malformed(_) | WalkFault::WrongTreeOrLevel | WalkFault::Disagrees => {
+            RebuildFault::NoTree
+        }
     }
 }

@@ -2,6 +2,7 @@
 //!
 //! [`Snapshot::build`] builds all four trees and makes the manifest and the root; [`Snapshot::apply`] changes them, and
 //! [`Snapshot::apply_announced`] does so where the new root is one that was announced.
+//! [`UpdatePlan`] makes the same of a publication whose trees any shelf gives, as a pack does.
 //! [`entries_of`] lists the entries of one tree. What the trees hold, and the keys in which a question about a set is
 //! answered, stand in `osm_keys`, whose items this crate exports too.
 #![tactic(auto)]
@@ -14,6 +15,7 @@ mod change_refusals;
 mod changed_trees;
 mod delta;
 mod digits;
+mod edition_after;
 mod entry_changes;
 mod entry_list;
 mod fault;
@@ -27,7 +29,10 @@ mod prefixed_entry;
 mod put_objects;
 mod snapshot;
 mod sort_entries;
+mod tree_changes;
 mod update;
+mod update_fault;
+mod update_plan;
 
 pub use announced_fault::AnnouncedFault;
 pub use apply_fault::ApplyFault;
@@ -45,3 +50,6 @@ pub use osm_keys::{
     tag_key_law, tag_key_range, tag_law, tag_range, write_manifest,
 };
 pub use snapshot::Snapshot;
+pub use update::Update;
+pub use update_fault::UpdateFault;
+pub use update_plan::UpdatePlan;

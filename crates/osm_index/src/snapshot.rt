@@ -15,27 +15,27 @@ ghost use Rattle.osm_keys.specs.Entries.{AreEntriesOf};
 ghost use Rattle.osm_index.specs.Holdings.{HoldSome};
 ghost use Rattle.hex.specs.Hex.{encode_lower};
 ghost use Rattle.osm_keys.specs.Publications.{HasTooMany, IsNodeIn, IsPublicationOf, Publication, root_of, shape_of};
-ghost use Rattle.osm_index.specs.internal.Updates.{IsNext, IsUpdate, IsUpdateBy, RefusesUpdate};
+ghost use Rattle.osm_index.specs.internal.Updates.{IsPlanOf, IsUpdate, IsUpdateBy, RefusesUpdate};
 ghost use Rattle.osm_index.specs.internal.Putting.{AreAllFour, EndsTree, EndsTrees};
 
 use crate::all_objects::all_objects;
 use crate::announced_fault::AnnouncedFault;
 use crate::apply_fault::ApplyFault;
 use crate::build_progress::{BuildProgress, Unwatched};
-use crate::changed_trees::change_trees;
 use crate::delta::Delta;
 use crate::digits::are_digits_of;
 use crate::fault::IndexFault;
 use crate::held_tree::entry_count;
 use crate::listing::entries_of;
 use crate::node_changes::{put_nodes, remove_nodes};
-use crate::object_changes::object_changes;
-use crate::update::{Update, update_of};
+use crate::update::Update;
+use crate::update_fault::UpdateFault;
+use crate::update_plan::UpdatePlan;
 use opl_codec::Change;
 use osm_keys::{Edition, Manifest, write_manifest};
 use osm_model::{ObjectSet, Ref};
 use std::alloc::{AllocError, Global};
-use tree_build::{BuildFault, Entry, Shape, build};
+use tree_build::{BuildFault, Entry, RebuildFault, Shape, build};
 use tree_node::{Digest, ENTRY_LIMIT, PutFault, Stock, Tree};
 
 /// A set of objects in an edition, with the nodes of its trees, its manifest and its root: the type keeps
@@ -266,16 +266,38 @@ impl Snapshot {
             → IfErr result (RefusesUpdate p changes.now) }
         ensures last { (result ≡ Err ApplyFault.LastSequence) ↔ IsLast self.now.edition }
     {
-        let edition = edition_after(self.edition)?;
-        let objects = object_changes(alloc, changes, &self.manifest.tops[0], &self.stock)?;
-        let trees = change_trees(
-            alloc,
-            &objects.removed,
-            &objects.puts,
-            &self.manifest.tops,
-            &self.stock,
-        )?;
-        Ok(update_of(alloc, edition, trees, &self.root)?)
+        let manifest = Manifest {
+            edition: self.edition,
+            tops: self.manifest.tops,
+        };
+        let plan = self.plan(alloc, &manifest, changes)?;
+        let mut shelf = self.stock.shelf(alloc);
+        match plan.carry_out(alloc, &mut shelf, &manifest, &self.root) {
+            Ok(update) => Ok(update),
+            Err(fault) => Err(ApplyFault::from(memory_alone(fault))),
+        }
+    }
+
+    /// The plan of these changes, where the manifest is that of the snapshot.
+    fn plan(
+        &self,
+        alloc: Global,
+        manifest: &Manifest,
+        changes: &[Change],
+    ) -> Result<UpdatePlan, ApplyFault>
+        requires edition { manifest.now.edition ≡ self.now.edition }
+        requires tops { manifest.now.tops ≡ self.now.manifest.tops }
+        ensures planned { (p : Publication) → HoldsPublication self.now p
+            → IfOk result (IsPlanOf p changes.now) }
+        ensures refused { (p : Publication) → HoldsPublication self.now p
+            → IfErr result (RefusesUpdate p changes.now) }
+        ensures last { (result ≡ Err ApplyFault.LastSequence) ↔ IsLast self.now.edition }
+    {
+        let mut shelf = self.stock.shelf(alloc);
+        match UpdatePlan::new(alloc, &mut shelf, manifest, changes) {
+            Ok(plan) => Ok(plan),
+            Err(fault) => Err(refusal(fault)),
+        }
     }
 
     /// The number of objects: read from the nodes on the way from the object tree's top to its first leaf.
@@ -283,7 +305,11 @@ impl Snapshot {
         ensures { (p : Publication) → HoldsPublication self.now p
             → IfOk result (λ number. number ≡ length p.objects) }
     {
-        entry_count(alloc, Tree::Objects, &self.manifest.tops[0], &self.stock)
+        let mut shelf = self.stock.shelf(alloc);
+        match entry_count(alloc, &mut shelf, Tree::Objects, &self.manifest.tops[0]) {
+            Ok(number) => Ok(number),
+            Err(fault) => Err(memory_alone(fault)),
+        }
     }
 
     /// The root: the digest of the manifest.
@@ -312,7 +338,11 @@ impl Snapshot {
         ensures { (p : Publication) → HoldsPublication self.now p
             → IfOk result (λ set. set ≡ p.objects) }
     {
-        all_objects(alloc, &self.manifest.tops[0], &self.stock)
+        let mut shelf = self.stock.shelf(alloc);
+        match all_objects(alloc, &mut shelf, &self.manifest.tops[0]) {
+            Ok(set) => Ok(set),
+            Err(fault) => Err(memory_alone(fault)),
+        }
     }
 
     /// The manifest.
@@ -323,17 +353,24 @@ impl Snapshot {
     }
 }
 
-/// The second edition at the next sequence. Refused where none comes after that of the edition.
-fn edition_after(edition: Edition) -> Result<Edition, ApplyFault>
-    ensures next { IfOk result (IsNext edition) }
-    ensures refused { IfErr result (λ fault. (fault ≡ ApplyFault.LastSequence) × IsLast edition) }
+/// What refuses a reading of a tree that the stock holds.
+fn memory_alone(fault: RebuildFault) -> AllocError
+    requires { ∥ fault ≡ RebuildFault.Memory ∥₁ }
 {
-    match edition {
-        Edition::One => Err(ApplyFault::LastSequence),
-        Edition::Two { sequence } => match sequence.checked_add(1) {
-            Some(sequence) => Ok(Edition::Two { sequence }),
-            None => Err(ApplyFault::LastSequence),
-        },
+    match fault {
+        RebuildFault::Memory => AllocError,
+        RebuildFault::Missing | RebuildFault::NoTree => unreachable!("the stock holds the tree"),
+    }
+}
+
+/// What refuses changes of a publication that the stock holds.
+fn refusal(fault: UpdateFault) -> ApplyFault
+    requires { ∥ ((refusal : ApplyFault) × (fault ≡ UpdateFault.Apply refusal)) ∥₁ }
+    ensures { fault ≡ UpdateFault.Apply result }
+{
+    match fault {
+        UpdateFault::Apply(refusal) => refusal,
+        UpdateFault::Missing | UpdateFault::NoTree => unreachable!("the stock holds the trees"),
     }
 }
 

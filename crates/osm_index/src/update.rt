@@ -1,4 +1,4 @@
-//! What a snapshot becomes by changes.
+//! What a publication becomes by changes.
 
 ghost use Rattle.std.specs.Prelude.{◌≡◌, ◌≢◌, IfOk, map};
 ghost use Rattle.tree_node.specs.Shelves.{IsClashFree};
@@ -13,19 +13,19 @@ use osm_keys::{Edition, Manifest, write_manifest};
 use std::alloc::{AllocError, Global};
 use tree_node::{Digest, NewNode};
 
-/// What a snapshot becomes by changes, and the nodes that come and go; all that takes memory, but for the stock.
+/// What a publication becomes by changes, and the nodes that come and go.
 #[derive(Drop)]
-pub(crate) struct Update {
+pub struct Update {
     /// The new manifest.
-    pub(crate) manifest: Manifest,
+    pub manifest: Manifest,
     /// The new root.
-    pub(crate) root: Digest,
+    pub root: Digest,
     /// The nodes that the old publication doesn't have, each once.
-    pub(crate) nodes: Vec<NewNode>,
+    pub nodes: Vec<NewNode>,
     /// Their digests.
-    pub(crate) added: Vec<Digest>,
+    pub added: Vec<Digest>,
     /// The digests of the nodes that only the old publication has, each once.
-    pub(crate) gone: Vec<Digest>,
+    pub gone: Vec<Digest>,
 }
 
 /// The update by which these trees come into the place of the old ones, whose root is given, in a new edition.

@@ -1,23 +1,26 @@
 -- How the four trees of a set of objects change with the set.
 -- Source: this project.
 use Rattle.std.specs.List.{Contains}
-use Rattle.std.specs.Prelude.{◌≡◌, ◌↔◌, ◌⊎◌, ◌≤◌, ℕ, List, length}
+use Rattle.std.specs.Prelude.{◌≡◌, ◌↔◌, ◌⊎◌, ◌≤◌, ℕ, List, None, length}
 use Rattle.osm_model.specs.Elements.{Element, reference}
 use Rattle.osm_model.specs.Sets.{IsObjectSet}
-use Rattle.tree_build.specs.Rebuilding.{AreDifferent, IsAmong, IsRebuilt, digests_of, nodes_of}
+use Rattle.tree_build.specs.Changing.{Change}
+use Rattle.tree_build.specs.Rebuilding.{AreDifferent, IsAmong, IsRebuilt, changed_entries, changes_of, digests_of, keys_of_changes, nodes_of}
 use Rattle.tree_build.specs.declared.rebuilt.Rebuilt.{Rebuilt}
 use Rattle.tree_node.specs.Digests.{digest}
 use Rattle.tree_node.specs.NodeRefs.{number_of}
-use Rattle.tree_node.specs.Nodes.{Binding}
+use Rattle.tree_node.specs.Nodes.{AreRisingFrom, Binding}
 use Rattle.tree_node.specs.Trees.{Two, levels}
 use Rattle.tree_node.specs.declared.digest.Digest.{Digest}
 use Rattle.tree_node.specs.declared.limits.TheConstants.{ENTRY_LIMIT}
 use Rattle.tree_node.specs.declared.tree.Tree.{Tree}
+use Rattle.tree_node.specs.declared.tree.Tree.TheVariants.{Objects, Tags, Cells, Backs}
 use Rattle.osm_index.specs.Applying.{IsSecond}
 use Rattle.osm_keys.specs.Entries.{AreEntriesOf}
 use Rattle.osm_keys.specs.Manifests.{top_among}
 use Rattle.osm_keys.specs.Publications.{IsPublication, Publication, top_in}
 use Rattle.osm_index.specs.declared.changed_trees.ChangedTrees.{ChangedTrees}
+use Rattle.osm_index.specs.declared.tree_changes.TreeChanges.{TreeChanges}
 use Rattle.osm_index.specs.internal.HeldTrees.{HoldsTree}
 use Rattle.osm_index.specs.internal.Putting.{IsTreeNode}
 
@@ -39,16 +42,26 @@ pub record HoldsChanging (p : Publication) (removed puts set : List Element) (tr
   pub second : IsSecond p.edition
   pub changed_set : IsChangedSet p.objects removed puts set
 
-abbrev pub HoldsSomeChanging : List Element → List Element → Tree → List ℕ → (List ℕ → Type 0) → Type 0
-HoldsSomeChanging removed puts tree top held = (p : Publication) × (set : List Element) × HoldsChanging p removed puts set tree top held
-
 -- what became of one tree: the tree of the new set, whose entries are few enough
 pub record IsChangedTree (set : List Element) (tree : Tree) (old new : List Binding) (rebuilt : Rebuilt) : Type 0 where
   pub are : AreEntriesOf set tree new
   pub few : length new ≤ ENTRY_LIMIT
   pub is : IsRebuilt (levels Two (number_of tree) old) (levels Two (number_of tree) new) rebuilt
 
+-- how the entries of a tree change with the set: their keys rise, and what the changed entries are
+pub record IsChangeOf (p : Publication) (set : List Element) (tree : Tree) (changes : List (Change Binding)) : Type 0 where
+  pub rising : AreRisingFrom None (keys_of_changes changes)
+  pub few : length (changed_entries (p.entries tree) changes) ≤ ENTRY_LIMIT
+  pub are : AreEntriesOf set tree (changed_entries (p.entries tree) changes)
+
 -- ---- all four
+
+-- so of each tree
+pub record AreChangesOf (p : Publication) (set : List Element) (changes : TreeChanges) : Type 0 where
+  pub objects : IsChangeOf p set Objects (changes_of changes.objects.items)
+  pub tags : IsChangeOf p set Tags (changes_of changes.tags.items)
+  pub cells : IsChangeOf p set Cells (changes_of changes.cells.items)
+  pub backs : IsChangeOf p set Backs (changes_of changes.backs.items)
 
 -- The set holds the trees of the publication, which is of the second edition, and whose tops have these digests. This is
 -- what its set of objects becomes.
@@ -58,9 +71,6 @@ pub record AreHeldTrees (p : Publication) (removed puts set : List Element) (top
   pub tops_are : (tree : Tree) → top_among tops tree ≡ top_in p tree
   pub nodes : (bytes : List ℕ) → IsTreeNode p bytes → held bytes
   pub changed_set : IsChangedSet p.objects removed puts set
-
-abbrev pub AreSomeHeldTrees : List Element → List Element → List Digest → (List ℕ → Type 0) → Type 0
-AreSomeHeldTrees removed puts tops held = (p : Publication) × (set : List Element) × AreHeldTrees p removed puts set tops held
 
 -- what became of them: the tops of the new ones, the nodes that come and the digests of those that go, each once
 pub record AreChangedTrees (p q : Publication) (trees : ChangedTrees) : Type 0 where

@@ -1,8 +1,7 @@
--- Trees of a publication that a stock holds, and what is read from them.
+-- Trees of a publication that a set of nodes holds, and what is read from them.
 -- Source: this project.
 use Rattle.std.specs.List.{Contains}
 use Rattle.std.specs.Prelude.{◌≡◌, ◌↔◌, ℕ, All, List, map}
-use Rattle.osm_model.specs.CanonicalLine.{canonical_line}
 use Rattle.osm_model.specs.Elements.{Element, reference}
 use Rattle.osm_model.specs.Limits.{IsElement}
 use Rattle.osm_model.specs.Sets.{IsObjectSet}
@@ -19,24 +18,12 @@ pub record HoldsTree (p : Publication) (tree : Tree) (top : List ℕ) (held : Li
   pub is_top : top ≡ top_in p tree
   pub nodes : (bytes : List ℕ) → IsNodeOf (tree_in p tree) bytes → held bytes
 
--- so it is of some publication
-abbrev pub HoldsSome : Tree → List ℕ → (List ℕ → Type 0) → Type 0
-HoldsSome tree top held = (p : Publication) × HoldsTree p tree top held
-
 -- these are the objects of the set that have one of these names, as a set
 pub record AreNamed (objects : List Element) (names : List Ref) (found : List Element) : Type 0 where
   pub set : IsObjectSet found
   pub members : (o : Element) → Contains found o ↔ (Contains objects o × Contains names (reference o))
 
--- it is the canonical line of some object
-abbrev pub IsLineOfSome : List ℕ → Type 0
-IsLineOfSome line = (o : Element) × IsElement o × (line ≡ canonical_line o)
-
 -- these are the entries of these objects in the object tree, in their order
 pub record AreObjectEntries (objects : List Element) (entries : List Binding) : Type 0 where
   pub elements : All IsElement objects
   pub entries_are : entries ≡ map object_entry objects
-
--- so it is of some objects
-abbrev pub AreEntriesOfSome : List Binding → Type 0
-AreEntriesOfSome entries = (objects : List Element) × AreObjectEntries objects entries

@@ -1,27 +1,28 @@
-use Rattle.std.proofs.Math.Logic.{∥∥₁_elim, ∥∥₁_map}
-use mathlib.Core.HLevel.{⊥_prop}
-use Rattle.tree_node.specs.Recorders.{RecorderHolds}
-use Rattle.tree_node.specs.Stocks.{HasNode}
+use Rattle.tree_build.specs.StrangeShelves.{IsRefusedFor}
 use Rattle.tree_node.specs.declared.tree.Tree.TheVariants.{Objects}
 use Rattle.tree_walk.specs.Ranges.{range_of}
+use Rattle.osm_keys.specs.Publications.{tree_in}
+use Rattle.osm_index.proofs.ChangeTreeLemmas.{refused_as}
 use Rattle.osm_index.proofs.EntryObjects.{all_read, set_again, set_apart}
-use Rattle.osm_index.proofs.HeldTreeLemmas.{some_held_along}
+use Rattle.osm_index.proofs.HeldTreeLemmas.{memory_told}
 use Rattle.osm_index.proofs.all_objects.all_objects.Goals as goal
 
-pub entries_in-requires-clause-held : goal.entries_in-requires-clause-held
-entries_in-requires-clause-held c = ∥∥₁_map c.requires (some_held_along Objects c.args.top.now.0 (HasNode c.args.stock.now) (RecorderHolds c.shelf-shelf.result) c.shelf-shelf.ensures.holds)
+pub returns-in_err-entries-clause-told : goal.returns-in_err-entries-clause-told
+returns-in_err-entries-clause-told g c = λ p holds.
+    refused_as (IsRefusedFor (tree_in p Objects) (g.S.Shelf.holds c.entries_in.new.shelf)) c.from_residual.result c.in_err-entries.field-0.0 c.from_residual.ensures.1 (c.in_err-entries.ensures.told p holds)
 
-pub read_objects-requires : goal.read_objects-requires
-read_objects-requires c = ∥∥₁_map c.requires (λ (p, holds).
-    let are = all_read p c.args.top.now.0 (HasNode c.args.stock.now) (RecorderHolds c.shelf-shelf.result) c.shelf-shelf.ensures.holds holds (range_of c.all_keys.result) c.all_keys.ensures.range c.in_ok-entries.entries.items c.deref.result.now c.deref.ensures.value (c.in_ok-entries.ensures.found p) in
-    (p.objects, are))
+pub returns-in_err-objects-clause-told : goal.returns-in_err-objects-clause-told
+returns-in_err-objects-clause-told g c = λ p holds.
+    let are = all_read p holds.published (range_of c.all_keys.result) c.all_keys.ensures.range c.in_ok-entries.entries.items c.deref.result.now c.deref.ensures.value (c.in_ok-entries.ensures.found p holds) in
+    refused_as (IsRefusedFor (tree_in p Objects) (g.S.Shelf.holds c.entries_in.new.shelf)) c.from_residual-in_err-objects.result c.in_err-objects.field-0.0 c.from_residual-in_err-objects.ensures.1
+    (memory_told (tree_in p Objects) (g.S.Shelf.holds c.entries_in.new.shelf) c.in_err-objects.field-0.0 (c.in_err-objects.ensures.told p.objects are))
 
-pub unreachable-requires : goal.unreachable-requires
-unreachable-requires c = ∥∥₁_elim c.requires ⊥_prop (λ (p, holds).
-    let are = all_read p c.args.top.now.0 (HasNode c.args.stock.now) (RecorderHolds c.shelf-shelf.result) c.shelf-shelf.ensures.holds holds (range_of c.all_keys.result) c.all_keys.ensures.range c.in_ok-entries.entries.items c.deref.result.now c.deref.ensures.value (c.in_ok-entries.ensures.found p) in
-    c.in-Err.ensures.twice.1 (rw (c.in_ok-objects.ensures p.objects are) (set_apart p.objects holds.published.set)))
+pub returns-in-Ok-clause-objects : goal.returns-in-Ok-clause-objects
+returns-in-Ok-clause-objects g c = λ p holds.
+    let are = all_read p holds.published (range_of c.all_keys.result) c.all_keys.ensures.range c.in_ok-entries.entries.items c.deref.result.now c.deref.ensures.value (c.in_ok-entries.ensures.found p holds) in
+    set_again p.objects _ holds.published.set (rw (c.in_ok-objects.ensures.read p.objects are) at c.in-Ok.ensures.made.0) c.in-Ok.ensures.made.1
 
-pub returns : goal.returns
-returns c = λ p holds.
-    let are = all_read p c.args.top.now.0 (HasNode c.args.stock.now) (RecorderHolds c.shelf-shelf.result) c.shelf-shelf.ensures.holds holds (range_of c.all_keys.result) c.all_keys.ensures.range c.in_ok-entries.entries.items c.deref.result.now c.deref.ensures.value (c.in_ok-entries.ensures.found p) in
-    set_again p.objects _ holds.published.set (rw (c.in_ok-objects.ensures p.objects are) at c.in-Ok.ensures.made.0) c.in-Ok.ensures.made.1
+pub returns-clause-told : goal.returns-clause-told
+returns-clause-told g c = λ p holds.
+    let are = all_read p holds.published (range_of c.all_keys.result) c.all_keys.ensures.range c.in_ok-entries.entries.items c.deref.result.now c.deref.ensures.value (c.in_ok-entries.ensures.found p holds) in
+    absurd (c.in-Err.ensures.twice.1 (rw (c.in_ok-objects.ensures.read p.objects are) (set_apart p.objects holds.published.set)))

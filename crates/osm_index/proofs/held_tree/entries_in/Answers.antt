@@ -1,29 +1,18 @@
-use Rattle.std.proofs.Common.{refl}
-use Rattle.std.proofs.Math.Logic.{∥∥₁_map}
-use Rattle.tree_node.specs.Recorders.{RecorderHolds}
+use Rattle.tree_build.specs.StrangeShelves.{HasNoTwin}
 use Rattle.tree_walk.specs.Ranges.{range_of}
-use Rattle.osm_keys.specs.Publications.{shape_in}
-use Rattle.osm_index.proofs.HeldTreeLemmas.{ends_well, held_top, met_held}
+use Rattle.osm_keys.specs.Publications.{shape_in, tree_in}
+use Rattle.osm_index.proofs.HeldTreeLemmas.{alone_ends, held_top, met_held, met_of, refused_in}
 use Rattle.osm_index.proofs.held_tree.entries_in.Goals as goal
 
 pub returns-in-Ok-clause-found : goal.returns-in-Ok-clause-found
-returns-in-Ok-clause-found c = λ p holds.
-    let shelf = c.args.shelf.now in
-    let tree = c.args.tree in
-    let top = c.args.top.now.0 in
-    let so = c.in-Ok.ensures.answer (shape_in p) (p.entries tree) (held_top p tree top (RecorderHolds shelf) holds) in
-    (ends_well shelf c.range.new.shelf c.range.ensures.stays (met_held p tree top (RecorderHolds shelf) holds (range_of c.args.keys.now)) so).0
+returns-in-Ok-clause-found g c = λ p holds.
+    let used = g.S.Shelf.used c.range.new.shelf in
+    let so = c.in-Ok.ensures.answer (shape_in p) (p.entries c.args.tree) (held_top p c.args.tree c.args.top.now.0 (HasNoTwin used) holds) in
+    (alone_ends used (met_held p c.args.tree c.args.top.now.0 (HasNoTwin used) holds (range_of c.args.keys.now)) so).0
 
-pub memory_alone-requires : goal.memory_alone-requires
-memory_alone-requires c = ∥∥₁_map c.requires.held (λ (p, holds).
-    let shelf = c.args.shelf.now in
-    let tree = c.args.tree in
-    let top = c.args.top.now.0 in
-    ends_well shelf c.range.new.shelf c.range.ensures.stays (met_held p tree top (RecorderHolds shelf) holds (range_of c.args.keys.now))
-    (c.in-Err.ensures.answer (shape_in p) (p.entries tree) (held_top p tree top (RecorderHolds shelf) holds)))
-
-pub returns-in-Ok-clause-stays : goal.returns-in-Ok-clause-stays
-returns-in-Ok-clause-stays c = λ x. ((λ has. (c.range.ensures.stays x).0 refl has), (λ has. (c.range.ensures.stays x).1 has))
-
-pub returns-in-Err-clause-stays : goal.returns-in-Err-clause-stays
-returns-in-Err-clause-stays c = λ x. ((λ has. (c.range.ensures.stays x).0 refl has), (λ has. (c.range.ensures.stays x).1 has))
+pub returns-in-Err-clause-told : goal.returns-in-Err-clause-told
+returns-in-Err-clause-told g c = λ p holds.
+    let used = g.S.Shelf.used c.range.new.shelf in
+    let so = c.in-Err.ensures.answer (shape_in p) (p.entries c.args.tree) (held_top p c.args.tree c.args.top.now.0 (HasNoTwin used) holds) in
+    refused_in (tree_in p c.args.tree) (g.S.Shelf.holds c.range.new.shelf) c.fault_of.result c.in-Err.fault c.fault_of.ensures (met_of p c.args.tree (range_of c.args.keys.now))
+    (alone_ends used (met_held p c.args.tree c.args.top.now.0 (HasNoTwin used) holds (range_of c.args.keys.now)) so)

@@ -1,28 +1,22 @@
-use Rattle.std.proofs.Math.Logic.{∥∥₁_map}
-use Rattle.tree_node.specs.Recorders.{RecorderHolds}
-use Rattle.tree_node.specs.Stocks.{HasNode}
+use Rattle.tree_build.specs.StrangeShelves.{HasNoTwin}
 use Rattle.tree_walk.specs.Ranges.{range_of}
 use Rattle.tree_walk.specs.Walks.{IsEntryIn}
-use Rattle.osm_keys.specs.Publications.{shape_in}
-use Rattle.osm_index.proofs.HeldTreeLemmas.{count_all, counted_held, ends_well, held_along, held_top, in_all_keys}
+use Rattle.osm_keys.specs.Publications.{shape_in, tree_in}
+use Rattle.osm_index.proofs.HeldTreeLemmas.{alone_ends, count_all, counted_held, counted_of, held_top, in_all_keys, refused_in}
 use Rattle.osm_index.proofs.held_tree.entry_count.Goals as goal
 
-pub returns-in-Ok : goal.returns-in-Ok
-returns-in-Ok c = λ p holds.
-    let tree = c.args.tree in
-    let top = c.args.top.now.0 in
-    let shelf = c.shelf-shelf.result in
+pub returns-in-Ok-clause-number : goal.returns-in-Ok-clause-number
+returns-in-Ok-clause-number g c = λ p holds.
+    let used = g.S.Shelf.used c.count.new.shelf in
     let range = range_of c.all_keys.result in
-    let held = held_along p tree top (HasNode c.args.stock.now) (RecorderHolds shelf) c.shelf-shelf.ensures.holds holds in
-    let so = c.in-Ok.ensures.answer (shape_in p) (p.entries tree) (held_top p tree top (RecorderHolds shelf) held) in
-    let well = ends_well shelf c.count.new.shelf c.count.ensures.stays (counted_held p tree top (RecorderHolds shelf) held range) so in
-    count_all (IsEntryIn range) (p.entries tree) c.in-Ok.number (in_all_keys range c.all_keys.ensures.range) well.0
+    let so = c.in-Ok.ensures.answer (shape_in p) (p.entries c.args.tree) (held_top p c.args.tree c.args.top.now.0 (HasNoTwin used) holds) in
+    let ends = alone_ends used (counted_held p c.args.tree c.args.top.now.0 (HasNoTwin used) holds range) so in
+    count_all (IsEntryIn range) (p.entries c.args.tree) c.in-Ok.number (in_all_keys range c.all_keys.ensures.range) ends.0
 
-pub memory_alone-requires : goal.memory_alone-requires
-memory_alone-requires c = ∥∥₁_map c.requires (λ (p, holds).
-    let tree = c.args.tree in
-    let top = c.args.top.now.0 in
-    let shelf = c.shelf-shelf.result in
-    let held = held_along p tree top (HasNode c.args.stock.now) (RecorderHolds shelf) c.shelf-shelf.ensures.holds holds in
-    ends_well shelf c.count.new.shelf c.count.ensures.stays (counted_held p tree top (RecorderHolds shelf) held (range_of c.all_keys.result))
-    (c.in-Err.ensures.answer (shape_in p) (p.entries tree) (held_top p tree top (RecorderHolds shelf) held)))
+pub returns-in-Err-clause-told : goal.returns-in-Err-clause-told
+returns-in-Err-clause-told g c = λ p holds.
+    let used = g.S.Shelf.used c.count.new.shelf in
+    let range = range_of c.all_keys.result in
+    let so = c.in-Err.ensures.answer (shape_in p) (p.entries c.args.tree) (held_top p c.args.tree c.args.top.now.0 (HasNoTwin used) holds) in
+    refused_in (tree_in p c.args.tree) (g.S.Shelf.holds c.count.new.shelf) c.fault_of.result c.in-Err.fault c.fault_of.ensures (counted_of p c.args.tree range)
+    (alone_ends used (counted_held p c.args.tree c.args.top.now.0 (HasNoTwin used) holds range) so)
