@@ -64,18 +64,18 @@ listed (Ok u) items old tops digests is cleared same = ap digests_of (is ∙ ap 
 listed (Err e) items old tops digests is cleared same = tt
 
 -- the table of a record that was read is that of the children that were listed
-pub record HasTable (place_of : List ℕ → Option Place) (children : List (List ℕ)) (items : List Digest) (bytes : List ℕ) : Type 0 where
+pub record HasTable (place_of : List ℕ → Option Place) (limit : ℕ) (children : List (List ℕ)) (items : List Digest) (bytes : List ℕ) : Type 0 where
   pub same : digests_of items ≡ children
-  pub table : IsTable place_of (digests_of items) bytes
+  pub table : IsTable place_of limit (digests_of items) bytes
 
-pub has_table : (place_of : List ℕ → Option Place) (kept : Kept) (bytes node rest : List ℕ) (items : List Digest) → bytes ≡ record_bytes place_of kept → node ≡ node_in bytes → rest ≡ table_in bytes
-    → length kept.bytes < 2 ^ 32 → HasChildren kept.bytes kept.children → AllByRecursion (IsPlaced place_of) kept.children
-    → ((digests : List (List ℕ)) → HasChildren node digests → digests_of items ≡ digests) → HasTable place_of kept.children items rest
-has_table place_of kept bytes node rest items spelled is-node is-rest short has placed listing =
+pub has_table : (place_of : List ℕ → Option Place) (limit : ℕ) (kept : Kept) (bytes node rest : List ℕ) (items : List Digest) → bytes ≡ record_bytes place_of kept → node ≡ node_in bytes → rest ≡ table_in bytes
+    → length kept.bytes < 2 ^ 32 → HasChildren kept.bytes kept.children → AllByRecursion (IsPlaced place_of limit) kept.children
+    → ((digests : List (List ℕ)) → HasChildren node digests → digests_of items ≡ digests) → HasTable place_of limit kept.children items rest
+has_table place_of limit kept bytes node rest items spelled is-node is-rest short has placed listing =
     let whole : node ≡ kept.bytes = is-node ∙ ap node_in spelled ∙ node_again place_of kept short in
     let same = listing kept.children (subst (λ (b : List ℕ). HasChildren b kept.children) (sym whole) has) in
     let read : rest ≡ table place_of kept.children = is-rest ∙ ap table_in spelled ∙ table_again place_of kept short in
     record {
       same = same;
-      table = record { spelled = read ∙ ap (table place_of) (sym same); placed = subst (AllByRecursion (IsPlaced place_of)) (sym same) placed };
+      table = record { spelled = read ∙ ap (table place_of) (sym same); placed = subst (AllByRecursion (IsPlaced place_of limit)) (sym same) placed };
     }

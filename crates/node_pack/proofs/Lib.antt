@@ -7,6 +7,7 @@ mod PlaceMaps
 mod RecordLemmas
 mod RoleLemmas
 mod RoundLemmas
+mod SourceLemmas
 mod StepLemmas
 mod TableLemmas
 mod WholeLemmas

@@ -20,6 +20,7 @@ use Rattle.node_pack.specs.Headers.{header_at, header_bytes}
 use Rattle.node_pack.specs.declared.fault.PackFault.{PackFault}
 use Rattle.node_pack.specs.Known.{AreTrue, IsPlaced}
 use Rattle.node_pack.specs.Packs.{HasChildren, IsKept, IsPack, Kept, no_place, node_in, pack, pack_len, place_from, place_in, record_bytes, record_len, records_in, table}
+use Rattle.node_pack.specs.Placed.{HasNodeAt, HasNodesAt}
 use Rattle.node_pack.specs.Places.{at_place, place_bytes}
 use Rattle.node_pack.specs.declared.header.Header.{Header}
 use Rattle.node_pack.specs.declared.place.Place.{Place}
@@ -117,11 +118,11 @@ in_pack root nodes key place wide is =
 
 -- the children of its nodes have places
 pub are_placed : (root : List ℕ) (nodes : List Kept) → IsPack (pack root nodes) root nodes → (keys : List (List ℕ)) → AllByRecursion (λ (key : List ℕ). IsSome (place_in nodes key)) keys
-    → AllByRecursion (IsPlaced (place_in nodes)) keys
+    → AllByRecursion (IsPlaced (place_in nodes) (2 ^ 48)) keys
 are_placed root nodes is [] all = tt
 are_placed root nodes is (key ∷ keys) all = (one (place_in nodes key) refl all.0, are_placed root nodes is keys all.1)
   where
-    one : (o : Option Place) → place_in nodes key ≡ o → IsSome o → IsPlaced (place_in nodes) key
+    one : (o : Option Place) → place_in nodes key ≡ o → IsSome o → IsPlaced (place_in nodes) (2 ^ 48) key
     one None none some = absurd (Prim.cc)
     one (Some place) found some =
         let has = in_pack root nodes key place is.wide found in
@@ -130,8 +131,35 @@ are_placed root nodes is (key ∷ keys) all = (one (place_in nodes key) refl all
           place = place;
           is = found;
           near = omega (arith, has.within, has.len, is.short);
+          wide = omega (arith, has.within, has.len, is.short);
           short = omega (arith, has.len, short);
         }
+
+-- the header of a pack
+abbrev pub header_in : List ℕ → List Kept → Header
+header_in root nodes = record { root = record { 0 = root }; size = pack_len nodes; manifest = unwrap_or (place_in nodes root) no_place }
+
+pub pack_long : (root : List ℕ) (nodes : List Kept) → length root ≡ 32 → length (pack root nodes) ≡ pack_len nodes
+unfolding pack
+pack_long root nodes wide =
+    omega (arith, length-append (header_bytes (header_in root nodes)) (records_in nodes), header_long (header_in root nodes) wide)
+
+-- a pack has its nodes at their places
+pub packed : (root : List ℕ) (nodes : List Kept) → IsPack (pack root nodes) root nodes → HasNodesAt (pack root nodes) (2 ^ 48) (place_in nodes) nodes
+packed root nodes is key place found =
+    let has = in_pack root nodes key place is.wide found in
+    let own = of_each (IsKept nodes) nodes has.kept is.kept has.is_in in
+    record {
+      kept = has.kept;
+      is_in = has.is_in;
+      has_digest = has.has_digest;
+      children = own.children;
+      placed = are_placed root nodes is has.kept.children own.closed;
+      short = own.short;
+      stands = has.stands;
+      len = has.len;
+      within = subst (λ (n : ℕ). place.at + place.len ≤ n) (sym (pack_long root nodes is.wide)) has.within;
+    }
 
 -- ---- what is read at a place
 
@@ -164,15 +192,15 @@ module _ (place_of : List ℕ → Option Place) (kept : Kept) (short : length ke
       )
 
 -- What was read at the place of a node, for at most so many bytes.
-pub record ReadKept (nodes : List Kept) (key : List ℕ) (most : ℕ) (bytes : List ℕ) : Type 0 where
+pub record ReadKept (place_of : List ℕ → Option Place) (limit : ℕ) (nodes : List Kept) (key : List ℕ) (most : ℕ) (bytes : List ℕ) : Type 0 where
   pub kept : Kept
   pub is_in : Contains nodes kept
   pub has_digest : digest kept.bytes ≡ key
   pub front : take (most + 1) (node_in bytes) ≡ take (most + 1) kept.bytes
-  pub whole : length kept.bytes ≤ most → bytes ≡ record_bytes (place_in nodes) kept
+  pub whole : length kept.bytes ≤ most → bytes ≡ record_bytes place_of kept
   pub long : most < length kept.bytes → most < length (node_in bytes)
   pub children : HasChildren kept.bytes kept.children
-  pub placed : AllByRecursion (IsPlaced (place_in nodes)) kept.children
+  pub placed : AllByRecursion (IsPlaced place_of limit) kept.children
   pub short : length kept.bytes < 2 ^ 32
 
 pub less_or_more : (a b : ℕ) → (a ≤ b) ⊎ (b < a)
@@ -183,18 +211,16 @@ less_or_more a b =
       | inr (inr more) ↦ inr more
     ]
 
-pub read_kept : (root : List ℕ) (nodes : List Kept) (key : List ℕ) (place : Place) (most : ℕ) (bytes : List ℕ) → IsPack (pack root nodes) root nodes → place_in nodes key ≡ Some place
-    → bytes ≡ take (min place.len (most + 772)) (drop place.at (pack root nodes)) → ReadKept nodes key most bytes
-read_kept root nodes key place most bytes is found read =
-    let has = in_pack root nodes key place is.wide found in
-    let own = of_each (IsKept nodes) nodes has.kept is.kept has.is_in in
-    let few = few_children has.kept.bytes has.kept.children own.children in
-    let short : length has.kept.bytes < 2 ^ 32 = omega (arith, own.short) in
-    let record_of = record_bytes (place_in nodes) has.kept in
+pub read_kept : (file : List ℕ) (limit : ℕ) (place_of : List ℕ → Option Place) (nodes : List Kept) (key : List ℕ) (place : Place) (most : ℕ) (bytes : List ℕ) → HasNodeAt file limit place_of nodes key place
+    → bytes ≡ take (min place.len (most + 772)) (drop place.at file) → ReadKept place_of limit nodes key most bytes
+read_kept file limit place_of nodes key place most bytes has read =
+    let few = few_children has.kept.bytes has.kept.children has.children in
+    let short : length has.kept.bytes < 2 ^ 32 = omega (arith, has.short) in
+    let record_of = record_bytes place_of has.kept in
     let cut : bytes ≡ take (min place.len (most + 772)) record_of =
-    read ∙ sym (take-take (min place.len (most + 772)) place.len (drop place.at (pack root nodes)) (omega arith)) ∙ ap (λ (l : List ℕ). take (min place.len (most + 772)) l) has.stands in
+    read ∙ sym (take-take (min place.len (most + 772)) place.len (drop place.at file) (omega arith)) ∙ ap (λ (l : List ℕ). take (min place.len (most + 772)) l) has.stands in
     let whole : length has.kept.bytes ≤ most → bytes ≡ record_of = λ le.
-    cut ∙ take_all (min place.len (most + 772)) record_of (omega (arith, record_long (place_in nodes) has.kept, has.len, few, le)) in
+    cut ∙ take_all (min place.len (most + 772)) record_of (omega (arith, record_long place_of has.kept, has.len, few, le)) in
     let more : most < length has.kept.bytes → (k : ℕ) × (most + 1 ≤ k) × (4 + k ≡ min place.len (most + 772)) = λ lt.
     (min place.len (most + 772) - 4, omega (arith, has.len, lt), omega (arith, has.len, lt)) in
     record {
@@ -202,17 +228,17 @@ read_kept root nodes key place most bytes is found read =
       is_in = has.is_in;
       has_digest = has.has_digest;
       front = elim (less_or_more (length has.kept.bytes) most) [
-        | inl le ↦ ap (λ (l : List ℕ). take (most + 1) (node_in l)) (whole le) ∙ ap (take (most + 1)) (node_again (place_in nodes) has.kept short)
+        | inl le ↦ ap (λ (l : List ℕ). take (most + 1) (node_in l)) (whole le) ∙ ap (take (most + 1)) (node_again place_of has.kept short)
         | inr lt ↦
             let (k, much, e) = more lt in
-            ap (λ (l : List ℕ). take (most + 1) (node_in l)) (cut ∙ ap (λ (n : ℕ). take n record_of) (sym e)) ∙ cut_front (place_in nodes) has.kept short most k much lt
+            ap (λ (l : List ℕ). take (most + 1) (node_in l)) (cut ∙ ap (λ (n : ℕ). take n record_of) (sym e)) ∙ cut_front place_of has.kept short most k much lt
       ];
       whole = whole;
       long = λ lt.
           let (k, much, e) = more lt in
-          subst (λ (l : List ℕ). most < length (node_in l)) (sym (cut ∙ ap (λ (n : ℕ). take n record_of) (sym e))) (cut_long (place_in nodes) has.kept short most k much lt);
-      children = own.children;
-      placed = are_placed root nodes is has.kept.children own.closed;
+          subst (λ (l : List ℕ). most < length (node_in l)) (sym (cut ∙ ap (λ (n : ℕ). take n record_of) (sym e))) (cut_long place_of has.kept short most k much lt);
+      children = has.children;
+      placed = has.placed;
       short = short;
     }
 
@@ -227,24 +253,21 @@ on_ok_where (Ok a) p f = f p
 on_ok_where (Err e) p f = tt
 
 -- what is known stays true after a record was read, whether its node was too long to learn from or not
-pub trues_after : {S : Type 0} (nodes : List Kept) (key : List ℕ) (most : ℕ) (bytes : List ℕ) (m n : HashMap Digest Place S) → ReadKept nodes key most bytes → AreTrue (place_in nodes) m
+pub trues_after : {S : Type 0} (place_of : List ℕ → Option Place) (limit : ℕ) (nodes : List Kept) (key : List ℕ) (most : ℕ) (bytes : List ℕ) (m n : HashMap Digest Place S)
+    → ReadKept place_of limit nodes key most bytes → AreTrue place_of m
     → (most < length (node_in bytes) → n ≡ m)
     → ((place_of : List ℕ → Option Place) (kept : Kept) → AreTrue place_of m → bytes ≡ record_bytes place_of kept → HasChildren kept.bytes kept.children
-    → AllByRecursion (IsPlaced place_of) kept.children → length kept.bytes < 2 ^ 32 → AreTrue place_of n)
-    → AreTrue (place_in nodes) n
-trues_after {S = S} nodes key most bytes m n read old same learned =
+    → AllByRecursion (IsPlaced place_of limit) kept.children → length kept.bytes < 2 ^ 32 → AreTrue place_of n)
+    → AreTrue place_of n
+trues_after {S = S} place_of limit nodes key most bytes m n read old same learned =
     elim (less_or_more (length read.kept.bytes) most) [
-      | inl le ↦ learned (place_in nodes) read.kept old (read.whole le) read.children read.placed read.short
-      | inr lt ↦ subst (λ (places : HashMap Digest Place S). AreTrue (place_in nodes) places) (sym (same (read.long lt))) old
+      | inl le ↦ learned place_of read.kept old (read.whole le) read.children read.placed read.short
+      | inr lt ↦ subst (λ (places : HashMap Digest Place S). AreTrue place_of places) (sym (same (read.long lt))) old
     ]
 
 -- Ok of a header
 abbrev the_ok : Header → Result Header PackFault
 the_ok h = Ok h
-
--- the header of a pack
-abbrev pub header_in : List ℕ → List Kept → Header
-header_in root nodes = record { root = record { 0 = root }; size = pack_len nodes; manifest = unwrap_or (place_in nodes root) no_place }
 
 -- the node with the root stands in the file
 pub root_near : (root : List ℕ) (nodes : List Kept) (place : Place) → IsPack (pack root nodes) root nodes → place_in nodes root ≡ Some place → place.at < 2 ^ 48
@@ -258,11 +281,6 @@ pub record HasHeader (root : List ℕ) (nodes : List Kept) (header : Header) : T
   pub same : header.root.0 ≡ root
   pub is : place_in nodes header.root.0 ≡ Some header.manifest
   pub near : header.manifest.at < 2 ^ 48
-
-pub pack_long : (root : List ℕ) (nodes : List Kept) → length root ≡ 32 → length (pack root nodes) ≡ pack_len nodes
-unfolding pack
-pack_long root nodes wide =
-    omega (arith, length-append (header_bytes (header_in root nodes)) (records_in nodes), header_long (header_in root nodes) wide)
 
 pub has_header : (root : List ℕ) (nodes : List Kept) (header : Header) → IsPack (pack root nodes) root nodes → header_at (take 60 (pack root nodes)) (length (pack root nodes)) ≡ Ok header
     → HasHeader root nodes header

@@ -58,39 +58,39 @@ module _ (place_of : List ℕ → Option Place) (kept : Kept) (short : length ke
       (drop_at kept.bytes (table place_of kept.children) (length kept.bytes) refl)
 
 -- The first child of a table, whose place is at its front.
-pub record FirstOf (place_of : List ℕ → Option Place) (child : List ℕ) (children : List (List ℕ)) (rest : List ℕ) : Type 0 where
+pub record FirstOf (place_of : List ℕ → Option Place) (limit : ℕ) (child : List ℕ) (children : List (List ℕ)) (rest : List ℕ) : Type 0 where
   pub is : place_of child ≡ Some (first_place rest)
-  pub near : (first_place rest).at < 2 ^ 48
-  pub others : IsTable place_of children (drop 12 rest)
+  pub near : (first_place rest).at < limit
+  pub others : IsTable place_of limit children (drop 12 rest)
   pub long : 12 ≤ length rest
 
-pub first_of : (place_of : List ℕ → Option Place) (child : List ℕ) (children : List (List ℕ)) (rest : List ℕ) → IsTable place_of (child ∷ children) rest → FirstOf place_of child children rest
-first_of place_of child children rest is =
+pub first_of : (place_of : List ℕ → Option Place) (limit : ℕ) (child : List ℕ) (children : List (List ℕ)) (rest : List ℕ) → IsTable place_of limit (child ∷ children) rest → FirstOf place_of limit child children rest
+first_of place_of limit child children rest is =
     let placed = is.placed.0 in
     let p = placed.place in
     let more = table place_of children in
     let spelled : rest ≡ place_bytes p ++ more = is.spelled ∙ ap (λ (o : Option Place). place_bytes (unwrap_or o no_place) ++ more) placed.is in
-    let read : first_place rest ≡ p = ap first_place spelled ∙ place_again p more (omega (arith, placed.near)) placed.short in
+    let read : first_place rest ≡ p = ap first_place spelled ∙ place_again p more placed.wide placed.short in
     record {
       is = placed.is ∙ ap (λ (q : Place). Some q) (sym read);
-      near = subst (λ (q : Place). q.at < 2 ^ 48) (sym read) placed.near;
+      near = subst (λ (q : Place). q.at < limit) (sym read) placed.near;
       others = record { spelled = ap (λ (b : List ℕ). drop 12 b) spelled ∙ after_place p more; placed = is.placed.1 };
       long = omega (arith, ap length spelled, length-append (place_bytes p) more, place_long p);
     }
 
 -- the same of a list of children, some of which are remembered
-pub next_of : {S : Type 0} (place_of : List ℕ → Option Place) (places : HashMap Digest Place S) (children : List Digest) (i : ℕ) (d : Digest) (rest : List ℕ) → i < length children
-    → IsBetween place_of places (digests_of (take i children)) (digests_of (drop i children)) rest → FirstOf place_of (get_or children i d).0 (digests_of (drop (i + 1) children)) rest
-next_of place_of places children i d rest lt between =
-    first_of place_of (get_or children i d).0 (digests_of (drop (i + 1) children)) rest (subst (λ (ds : List Digest). IsTable place_of (digests_of ds) rest) (drop_more children i d lt) between.table)
+pub next_of : {S : Type 0} (place_of : List ℕ → Option Place) (limit : ℕ) (places : HashMap Digest Place S) (children : List Digest) (i : ℕ) (d : Digest) (rest : List ℕ) → i < length children
+    → IsBetween place_of limit places (digests_of (take i children)) (digests_of (drop i children)) rest → FirstOf place_of limit (get_or children i d).0 (digests_of (drop (i + 1) children)) rest
+next_of place_of limit places children i d rest lt between =
+    first_of place_of limit (get_or children i d).0 (digests_of (drop (i + 1) children)) rest (subst (λ (ds : List Digest). IsTable place_of limit (digests_of ds) rest) (drop_more children i d lt) between.table)
 
 -- one more is remembered
-pub one_more : {S : Type 0} (place_of : List ℕ → Option Place) (m n : HashMap Digest Place S) (children : List Digest) (i : ℕ) (d : Digest) (rest : List ℕ) → i < length children
-    → IsBetween place_of m (digests_of (take i children)) (digests_of (drop i children)) rest
+pub one_more : {S : Type 0} (place_of : List ℕ → Option Place) (limit : ℕ) (m n : HashMap Digest Place S) (children : List Digest) (i : ℕ) (d : Digest) (rest : List ℕ) → i < length children
+    → IsBetween place_of limit m (digests_of (take i children)) (digests_of (drop i children)) rest
     → ((key : List ℕ) → IsKnown m key → IsKnown n key) → IsKnown n (get_or children i d).0 → AreTrue place_of n
-    → IsBetween place_of n (digests_of (take (i + 1) children)) (digests_of (drop (i + 1) children)) (drop 12 rest)
-one_more place_of m n children i d rest lt between keeps known trues =
-    let first = next_of place_of m children i d rest lt between in
+    → IsBetween place_of limit n (digests_of (take (i + 1) children)) (digests_of (drop (i + 1) children)) (drop 12 rest)
+one_more place_of limit m n children i d rest lt between keeps known trues =
+    let first = next_of place_of limit m children i d rest lt between in
     let all = all_and (IsKnown n) (digests_of (take i children)) (get_or children i d).0 (all_known_stay m n keeps (digests_of (take i children)) between.known) known in
     let more : digests_of (take (i + 1) children) ≡ digests_of (take i children) ++ (get_or children i d).0 ∷ [] =
     ap digests_of (take_more children i d lt) ∙ map-append (λ (key : Digest). key.0) (take i children) (get_or children i d ∷ []) in
@@ -101,11 +101,11 @@ one_more place_of m n children i d rest lt between keeps known trues =
     }
 
 -- all are
-pub all_learned : {S : Type 0} (place_of : List ℕ → Option Place) (n : HashMap Digest Place S) (children : List Digest) (i : ℕ) (rest : List ℕ) → length children ≤ i
-    → IsBetween place_of n (digests_of (take i children)) (digests_of (drop i children)) rest → AllByRecursion (IsKnown n) (digests_of children)
-all_learned place_of n children i rest le between = subst (λ (ds : List Digest). AllByRecursion (IsKnown n) (digests_of ds)) (take_all i children le) between.known
+pub all_learned : {S : Type 0} (place_of : List ℕ → Option Place) (limit : ℕ) (n : HashMap Digest Place S) (children : List Digest) (i : ℕ) (rest : List ℕ) → length children ≤ i
+    → IsBetween place_of limit n (digests_of (take i children)) (digests_of (drop i children)) rest → AllByRecursion (IsKnown n) (digests_of children)
+all_learned place_of limit n children i rest le between = subst (λ (ds : List Digest). AllByRecursion (IsKnown n) (digests_of ds)) (take_all i children le) between.known
 
 -- none is at first
-pub none_learned : {S : Type 0} (place_of : List ℕ → Option Place) (n : HashMap Digest Place S) (children : List Digest) (bytes : List ℕ) → AreTrue place_of n
-    → IsTable place_of (digests_of children) bytes → IsBetween place_of n (digests_of (take 0 children)) (digests_of (drop 0 children)) bytes
-none_learned place_of n children bytes trues is = record { trues = trues; known = tt; table = is }
+pub none_learned : {S : Type 0} (place_of : List ℕ → Option Place) (limit : ℕ) (n : HashMap Digest Place S) (children : List Digest) (bytes : List ℕ) → AreTrue place_of n
+    → IsTable place_of limit (digests_of children) bytes → IsBetween place_of limit n (digests_of (take 0 children)) (digests_of (drop 0 children)) bytes
+none_learned place_of limit n children bytes trues is = record { trues = trues; known = tt; table = is }

@@ -3,6 +3,7 @@ pub mod Headers
 pub mod Hints
 pub mod Known
 pub mod Packs
+pub mod Placed
 pub mod Places
 pub mod Reached
 pub mod Sources

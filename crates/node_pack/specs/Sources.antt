@@ -2,12 +2,14 @@
 -- Source: this project.
 use Rattle.std.specs.HashMap.{hash_map_len}
 use Rattle.std.specs.List.{AllByRecursion, Contains}
-use Rattle.std.specs.Prelude.{◌≡◌, ◌≤◌, ◌+◌, ◌⊎◌, ℕ, List, ◌++◌, Err, Some, length, take}
+use Rattle.std.specs.Prelude.{◌≡◌, ◌<◌, ◌≤◌, ◌+◌, ◌⊎◌, ℕ, List, ◌++◌, Err, Option, Some, length, take}
 use Rattle.tree_node.specs.Digests.{digest}
 use Rattle.tree_node.specs.declared.digest.Digest.{Digest}
 use Rattle.node_pack.specs.Headers.{header_at}
 use Rattle.node_pack.specs.Known.{AreTrue, IsKnown}
-use Rattle.node_pack.specs.Packs.{IsPack, Kept, pack, pack_len, place_in}
+use Rattle.node_pack.specs.Packs.{Kept}
+use Rattle.node_pack.specs.Placed.{HasNodesAt}
+use Rattle.node_pack.specs.declared.place.Place.{Place}
 use Rattle.node_pack.specs.declared.fault.PackFault.{PackFault}
 use Rattle.node_pack.specs.declared.fault.PackFault.TheVariants.{Device, Memory}
 use Rattle.node_pack.specs.declared.source.PackSource.{PackSource}
@@ -42,12 +44,14 @@ module _ {F : Type 0} where
   abbrev pub places_known : PackSource F → ℕ
   places_known source = hash_map_len source.places
 
-  -- It reads from a pack of the root with these nodes, and each place that it knows is the node's there, as is the one that it
-  -- keeps of the root's node. `reads` says what a device reads.
-  pub record IsOver (reads : F → List ℕ → Type 0) (source : PackSource F) (root : List ℕ) (nodes : List Kept) : Type 0 where
-    pub is_read : reads source.file (pack root nodes)
-    pub is_pack : IsPack (pack root nodes) root nodes
+  -- It reads from a file that has these nodes at these places, that of the node with the root among them, and each place that it
+  -- knows is the node's there. `reads` says what a device reads.
+  pub record IsOver (reads : F → List ℕ → Type 0) (place_of : List ℕ → Option Place) (source : PackSource F) (root : List ℕ) (nodes : List Kept) : Type 0 where
+    pub bytes : List ℕ
+    pub is_read : reads source.file bytes
+    pub are : HasNodesAt bytes source.limit place_of nodes
     pub rooted : source.root.0 ≡ root
-    pub manifest : place_in nodes root ≡ Some source.manifest
-    pub size : source.size ≡ pack_len nodes
-    pub trues : AreTrue (place_in nodes) source.places
+    pub manifest : place_of root ≡ Some source.manifest
+    pub near : source.manifest.at < source.limit
+    pub size : source.size ≡ length bytes
+    pub trues : AreTrue place_of source.places

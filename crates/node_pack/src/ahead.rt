@@ -1,7 +1,7 @@
 //! Reading ahead: what hints lead to is brought from a remote file, a level of the trees in each round.
 
 ghost use Rattle.std.specs.List.{Contains};
-ghost use Rattle.std.specs.Prelude.{◌≡◌, [], ℕ, List, OnOk};
+ghost use Rattle.std.specs.Prelude.{◌≡◌, [], ℕ, List, OnOk, Option};
 ghost use Rattle.node_pack.specs.Packs.{Kept};
 
 use crate::announced::Announced;
@@ -65,8 +65,9 @@ impl<F: ReadAt + Drop> PackSource<F> {
         ensures dropped { hints_in self.new.ahead.announced ≡ [] }
         ensures root { root_in self.new ≡ root_in self.old }
         ensures keeps { (key : List ℕ) → Knows self.old key → Knows self.new key }
-        ensures over { (root : List ℕ) (nodes : List Kept) → IsOver F.reads self.old root nodes
-            → IsOver F.reads self.new root nodes }
+        ensures over { (place_of : List ℕ → Option Place) (root : List ℕ) (nodes : List Kept)
+            → IsOver F.reads place_of self.old root nodes
+            → IsOver F.reads place_of self.new root nodes }
     {
         if self.ahead.announced.is_empty() {
             return;
@@ -82,8 +83,9 @@ impl<F: ReadAt + Drop> PackSource<F> {
         ensures announced { self.new.ahead.announced ≡ self.old.ahead.announced }
         ensures root { root_in self.new ≡ root_in self.old }
         ensures keeps { (key : List ℕ) → Knows self.old key → Knows self.new key }
-        ensures over { (root : List ℕ) (nodes : List Kept) → IsOver F.reads self.old root nodes
-            → IsOver F.reads self.new root nodes }
+        ensures over { (place_of : List ℕ → Option Place) (root : List ℕ) (nodes : List Kept)
+            → IsOver F.reads place_of self.old root nodes
+            → IsOver F.reads place_of self.new root nodes }
     {
         let mut level = Vec::new(self.ahead.alloc);
         add_tops(hints, &mut level)?;
@@ -107,8 +109,9 @@ impl<F: ReadAt + Drop> PackSource<F> {
         ensures announced { self.new.ahead.announced ≡ self.old.ahead.announced }
         ensures root { root_in self.new ≡ root_in self.old }
         ensures keeps { (key : List ℕ) → Knows self.old key → Knows self.new key }
-        ensures over { (root : List ℕ) (nodes : List Kept) → IsOver F.reads self.old root nodes
-            → IsOver F.reads self.new root nodes }
+        ensures over { (place_of : List ℕ → Option Place) (root : List ℕ) (nodes : List Kept)
+            → IsOver F.reads place_of self.old root nodes
+            → IsOver F.reads place_of self.new root nodes }
     {
         let places = new_places(
             self.ahead.alloc,
@@ -132,8 +135,9 @@ impl<F: ReadAt + Drop> PackSource<F> {
         ensures announced { self.new.ahead.announced ≡ self.old.ahead.announced }
         ensures root { root_in self.new ≡ root_in self.old }
         ensures keeps { (key : List ℕ) → Knows self.old key → Knows self.new key }
-        ensures over { (root : List ℕ) (nodes : List Kept) → IsOver F.reads self.old root nodes
-            → IsOver F.reads self.new root nodes }
+        ensures over { (place_of : List ℕ → Option Place) (root : List ℕ) (nodes : List Kept)
+            → IsOver F.reads place_of self.old root nodes
+            → IsOver F.reads place_of self.new root nodes }
     {
         let mut next = Vec::new(self.ahead.alloc);
         let mut opened = None;
@@ -155,8 +159,9 @@ impl<F: ReadAt + Drop> PackSource<F> {
         ensures announced { self.new.ahead.announced ≡ self.old.ahead.announced }
         ensures root { root_in self.new ≡ root_in self.old }
         ensures keeps { (key : List ℕ) → Knows self.old key → Knows self.new key }
-        ensures over { (root : List ℕ) (nodes : List Kept) → IsOver F.reads self.old root nodes
-            → IsOver F.reads self.new root nodes }
+        ensures over { (place_of : List ℕ → Option Place) (root : List ℕ) (nodes : List Kept)
+            → IsOver F.reads place_of self.old root nodes
+            → IsOver F.reads place_of self.new root nodes }
     {
         let Some(place) = self.places.get(key) else {
             self.buffer.clear();

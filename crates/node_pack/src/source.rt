@@ -1,15 +1,16 @@
 //! A source of nodes over a pack.
 
-ghost use Rattle.std.specs.Prelude.{◌≡◌, ◌≤◌, ◌++◌, ◌+◌, ◌↔◌, ℕ, Err, IfErr, IfOk, List, OnErr, OnOk, length, take};
+ghost use Rattle.std.specs.Prelude.{◌≡◌, ◌<◌, ◌≤◌, ◌-◌, ◌^◌, ◌⊎◌, ◌++◌, ◌+◌, ◌↔◌, ℕ, Err, IfErr, IfOk, IfSome, IsSome, List, OnErr, OnOk, Option, Some, length, take};
 ghost use Rattle.node_pack.specs.internal.Faults.{source_fault_of};
 ghost use Rattle.node_pack.specs.Headers.{header_at};
 ghost use Rattle.node_pack.specs.Packs.{IsPack, Kept, node_in, pack, place_in};
+ghost use Rattle.node_pack.specs.Placed.{HasNodesAt};
 ghost use Rattle.node_pack.specs.declared.header.Header.{Header};
 
 use crate::ahead::Ahead;
 use crate::fault::PackFault;
 use crate::header::{HEADER_LEN, read_header};
-use crate::learn::{first_places, learn};
+use crate::learn::{FILE_LIMIT, first_places, learn};
 use crate::place::Place;
 use crate::read_at::{ReadAt, ReadFault};
 use crate::record::{append_node, read_record};
@@ -33,9 +34,11 @@ use tree_node::Digest;
 pub struct PackSource<F: ReadAt + Drop> {
     pub(crate) file: F,
     root: Digest,
-    /// Where the record of the node with the root stands, by the header.
+    /// Where the record of the node with the root stands, by the header or by who opened the source.
     manifest: Place,
     pub(crate) size: u64,
+    /// Places from here on aren't known.
+    limit: u64,
     pub(crate) places: HashMap<Digest, Place>,
     pub(crate) buffer: Vec<u8>,
     children: Vec<Digest>,
@@ -51,7 +54,8 @@ impl<F: ReadAt + Drop> PackSource<F> {
         // Of a pack it knows where the node with the root is.
         ensures over { (root : List ℕ) (nodes : List Kept) → F.reads file (pack root nodes)
             → IsPack (pack root nodes) root nodes
-            → IfOk result (λ source. IsOver F.reads source root nodes × Knows source root) }
+            → IfOk result (λ source. IsOver F.reads (place_in nodes) source root nodes
+            × Knows source root) }
         // The header is that of the file, which has as many bytes as it states,
         ensures header { (bytes : List ℕ) → F.reads file bytes → IfOk result (λ source. (header : Header)
             × (header_at (take 60 bytes) (length bytes) ≡ Ok header) × (root_in source ≡ header.root)) }
@@ -62,12 +66,13 @@ impl<F: ReadAt + Drop> PackSource<F> {
         let mut buffer = Vec::new(alloc);
         file.read_at(0, size.min(HEADER_LEN as u64) as usize, &mut buffer)?;
         let header = read_header(buffer.as_slice(), size)?;
-        let places = first_places(alloc, header.root, header.manifest)?;
+        let places = first_places(alloc, header.root, header.manifest, FILE_LIMIT)?;
         Ok(PackSource {
             file,
             root: header.root,
             manifest: header.manifest,
             size,
+            limit: FILE_LIMIT,
             places,
             buffer,
             children: Vec::new(alloc),
@@ -75,11 +80,56 @@ impl<F: ReadAt + Drop> PackSource<F> {
         })
     }
 
-    /// The root that the header states.
+    /// Goes on from the place of the node with a root, in files that are read as one: each begins at the offset of its number
+    /// times 2^48, so that what stands in any of them has a place. Nothing is read but how many bytes there are.
+    pub fn open_at(
+        alloc: Global,
+        mut file: F,
+        root: Digest,
+        manifest: Place,
+    ) -> Result<PackSource<F>, PackFault>
+        // Where these bytes have nodes at places it knows where the node with the root is.
+        ensures over { (bytes : List ℕ) (place_of : List ℕ → Option Place) (nodes : List Kept)
+            → F.reads file bytes → HasNodesAt bytes (2 ^ 64 - 1) place_of nodes
+            → place_of root.0 ≡ Some manifest → manifest.at < 2 ^ 64 - 1
+            → IfOk result (λ source. IsOver F.reads place_of source root.0 nodes
+            × Knows source root.0) }
+        ensures root { IfOk result (λ source. root_in source ≡ root) }
+        // Refused where the device fails or memory is.
+        ensures refused { IfErr result (λ fault. (fault ≡ PackFault.Device)
+            ⊎ (fault ≡ PackFault.Memory)) }
+    {
+        let size = file.size()?;
+        let places = first_places(alloc, root, manifest, u64::MAX)?;
+        Ok(PackSource {
+            file,
+            root,
+            manifest,
+            size,
+            limit: u64::MAX,
+            places,
+            buffer: Vec::new(alloc),
+            children: Vec::new(alloc),
+            ahead: Ahead::new(alloc),
+        })
+    }
+
+    /// The root that the header states, or whoever opened the source.
     pub fn root(&self) -> Digest
         ensures { result ≡ root_in self.now }
     {
         self.root
+    }
+
+    /// Where the record of the node with a digest stands, if it knows.
+    pub fn place(&self, key: &Digest) -> Option<Place>
+        ensures known { IsSome result ↔ Knows self.now key.now.0 }
+        ensures true_place { (place_of : List ℕ → Option Place) (root : List ℕ) (nodes : List Kept)
+            → IsOver F.reads place_of self.now root nodes
+            → IfSome result (λ place. place_of key.now.0 ≡ Some place) }
+    {
+        let place = self.places.get(key)?;
+        Some(*place)
     }
 
     /// How many places it knows. Each takes some fifty bytes.
@@ -97,17 +147,19 @@ impl<F: ReadAt + Drop> PackSource<F> {
     pub fn forget(&mut self, alloc: Global) -> Result<(), AllocError>
         ensures root { root_in self.new ≡ root_in self.old }
         // It goes on reading from the same pack.
-        ensures over { (root : List ℕ) (nodes : List Kept) → IsOver F.reads self.old root nodes
-            → IsOver F.reads self.new root nodes }
+        ensures over { (place_of : List ℕ → Option Place) (root : List ℕ) (nodes : List Kept)
+            → IsOver F.reads place_of self.old root nodes
+            → IsOver F.reads place_of self.new root nodes }
         // It knows no other place than the root's, and over a pack it does know that one.
         ensures only { OnOk result ((key : List ℕ) → Knows self.new key → key ≡ (root_in self.new).0) }
         ensures few { OnOk result (places_known self.new ≤ 1) }
-        ensures knows { (root : List ℕ) (nodes : List Kept) → IsOver F.reads self.old root nodes
+        ensures knows { (place_of : List ℕ → Option Place) (root : List ℕ) (nodes : List Kept)
+            → IsOver F.reads place_of self.old root nodes
             → OnOk result (Knows self.new root) }
         ensures unchanged { OnErr result ((key : List ℕ) → Knows self.new key ↔ Knows self.old key) }
         ensures as_many { OnErr result (places_known self.new ≡ places_known self.old) }
     {
-        let places = first_places(alloc, self.root, self.manifest)?;
+        let places = first_places(alloc, self.root, self.manifest, self.limit)?;
         self.places = places;
         Ok(())
     }
@@ -119,10 +171,12 @@ impl<F: ReadAt + Drop> PackSource<F> {
         ensures unchanged { OnErr result (into.new.items ≡ into.old.items) }
         ensures root { root_in self.new ≡ root_in self.old }
         ensures keeps { (key : List ℕ) → Knows self.old key → Knows self.new key }
-        ensures over { (root key : List ℕ) (nodes : List Kept) → IsOver F.reads self.old root nodes
-            → place_in nodes key ≡ Some place → IsOver F.reads self.new root nodes }
-        ensures given { (root key : List ℕ) (nodes : List Kept) → IsOver F.reads self.old root nodes
-            → place_in nodes key ≡ Some place
+        ensures over { (place_of : List ℕ → Option Place) (root key : List ℕ)
+            (nodes : List Kept) → IsOver F.reads place_of self.old root nodes
+            → place_of key ≡ Some place → IsOver F.reads place_of self.new root nodes }
+        ensures given { (place_of : List ℕ → Option Place) (root key : List ℕ)
+            (nodes : List Kept) → IsOver F.reads place_of self.old root nodes
+            → place_of key ≡ Some place
             → OnOk result (GivesKept nodes key at_most into.old.items into.new.items (Knows self.new)) }
     {
         self.bring(place, at_most)?;
@@ -135,16 +189,19 @@ impl<F: ReadAt + Drop> PackSource<F> {
         ensures announced { self.new.ahead.announced ≡ self.old.ahead.announced }
         ensures root { root_in self.new ≡ root_in self.old }
         ensures keeps { (key : List ℕ) → Knows self.old key → Knows self.new key }
-        ensures over { (root key : List ℕ) (nodes : List Kept) → IsOver F.reads self.old root nodes
-            → place_in nodes key ≡ Some place → IsOver F.reads self.new root nodes }
-        ensures brought { (root key : List ℕ) (nodes : List Kept) → IsOver F.reads self.old root nodes
-            → place_in nodes key ≡ Some place
+        ensures over { (place_of : List ℕ → Option Place) (root key : List ℕ)
+            (nodes : List Kept) → IsOver F.reads place_of self.old root nodes
+            → place_of key ≡ Some place → IsOver F.reads place_of self.new root nodes }
+        ensures brought { (place_of : List ℕ → Option Place) (root key : List ℕ)
+            (nodes : List Kept) → IsOver F.reads place_of self.old root nodes
+            → place_of key ≡ Some place
             → OnOk result (IsBrought nodes key at_most (last_record self.new) (Knows self.new)) }
     {
         read_record(&mut self.file, self.size, place, at_most, &mut self.buffer)?;
         learn(
             self.buffer.as_slice(),
             at_most,
+            self.limit,
             &mut self.children,
             &mut self.places,
         )
@@ -186,9 +243,11 @@ impl<F: ReadAt + Drop> NodeSource for PackSource<F> {
         // and it forgets no place.
         ensures keeps { (key : List ℕ) → Knows self.old key → Knows self.new key }
         // Over a pack it gives the node with the digest, and knows its children from then on.
-        ensures over { (root : List ℕ) (nodes : List Kept) → IsOver F.reads self.old root nodes
-            → IsOver F.reads self.new root nodes }
-        ensures given { (root : List ℕ) (nodes : List Kept) → IsOver F.reads self.old root nodes
+        ensures over { (place_of : List ℕ → Option Place) (root : List ℕ) (nodes : List Kept)
+            → IsOver F.reads place_of self.old root nodes
+            → IsOver F.reads place_of self.new root nodes }
+        ensures given { (place_of : List ℕ → Option Place) (root : List ℕ) (nodes : List Kept)
+            → IsOver F.reads place_of self.old root nodes
             → OnOk result (GivesKept nodes key.now.0 at_most into.old.items into.new.items (Knows self.new)) }
     {
         let Some(place) = self.places.get(key) else {
@@ -206,8 +265,9 @@ impl<F: ReadAt + Drop> NodeSource for PackSource<F> {
     fn announce(&mut self, top: &Digest, lo: &[u8], hi: &[u8])
         ensures root { root_in self.new ≡ root_in self.old }
         ensures keeps { (key : List ℕ) → Knows self.old key → Knows self.new key }
-        ensures over { (root : List ℕ) (nodes : List Kept) → IsOver F.reads self.old root nodes
-            → IsOver F.reads self.new root nodes }
+        ensures over { (place_of : List ℕ → Option Place) (root : List ℕ) (nodes : List Kept)
+            → IsOver F.reads place_of self.old root nodes
+            → IsOver F.reads place_of self.new root nodes }
     {
         if self.file.is_remote() {
             self.ahead.hear(top, lo, hi);

@@ -8,6 +8,6 @@ use Rattle.node_pack.proofs.learn.learn_places.Given as goal
 abbrev pub invariant-loop-child : goal.invariant-loop-child
 invariant-loop-child l = record {
   keeps : (key : List ℕ) → IsKnown l.fn.places key → IsKnown l.places key;
-  between : (place_of : List ℕ → Option Place) → AreTrue place_of l.fn.places → IsTable place_of (digests_of l.children) l.table
-      → IsBetween place_of l.places (digests_of (take l.child-index l.children)) (digests_of (drop l.child-index l.children)) l.rest;
+  between : (place_of : List ℕ → Option Place) → AreTrue place_of l.fn.places → IsTable place_of l.limit (digests_of l.children) l.table
+      → IsBetween place_of l.limit l.places (digests_of (take l.child-index l.children)) (digests_of (drop l.child-index l.children)) l.rest;
 }

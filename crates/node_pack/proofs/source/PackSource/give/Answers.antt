@@ -4,8 +4,8 @@ use Rattle.node_pack.proofs.PackLemmas.{on_ok}
 use Rattle.node_pack.proofs.source.PackSource.give.Goals as goal
 
 pub returns-clause-given : goal.returns-clause-given
-returns-clause-given g c = λ root key nodes over is.
-    let brought = c.in_ok-bring.ensures.brought root key nodes over is in
+returns-clause-given g c = λ place_of root key nodes over is.
+    let brought = c.in_ok-bring.ensures.brought place_of root key nodes over is in
     on_ok c.append_node.result c.append_node.ensures.appended
     (λ appended. record {
       kept = brought.kept;

@@ -3,7 +3,7 @@ use Rattle.node_pack.specs.Known.{IsKnown}
 use Rattle.node_pack.specs.Packs.{pack, place_in}
 use Rattle.node_pack.specs.Sources.{IsOpenFault}
 use Rattle.node_pack.proofs.HeaderLemmas.{front_read, header_read}
-use Rattle.node_pack.proofs.PackLemmas.{fault_is, has_header, pack_long}
+use Rattle.node_pack.proofs.PackLemmas.{fault_is, has_header, packed}
 use Rattle.node_pack.proofs.source.PackSource.open.Goals as goal
 
 pub returns-in_err-header-clause-refused : goal.returns-in_err-header-clause-refused
@@ -23,11 +23,13 @@ returns-clause-over g c = λ root nodes reads is.
     let read = header_read bytes c.as_slice.result.now c.in_ok-size.size c.read_header.result (Ok c.in_ok-header.header) c.read_header.ensures c.in_ok-header.was front size in
     let has = has_header root nodes c.in_ok-header.header is read in (
       record {
+        bytes = bytes;
         is_read = c.read_at.ensures.stays bytes (c.size.ensures.stays bytes reads);
-        is_pack = is;
+        are = packed root nodes is;
         rooted = has.same;
         manifest = ap (place_in nodes) (sym has.same) ∙ has.is;
-        size = size ∙ pack_long root nodes is.wide;
+        near = has.near;
+        size = size;
         trues = c.in_ok-places.ensures.trues (place_in nodes) has.is;
       },
       subst (λ (key : List ℕ). IsKnown c.in_ok-places.places key) has.same (c.in_ok-places.ensures.known has.near),
