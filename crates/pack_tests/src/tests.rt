@@ -3,6 +3,7 @@
 mod assembly;
 mod building;
 mod entries;
+mod joined;
 mod kept_runs;
 mod packs;
 mod scratch;
