@@ -37,6 +37,7 @@ MODULES = {
     "scratch_files": ("pack_tests", "scratch"),
     "entry_sort": ("pack_tests", "entries"),
     "node_pack": ("pack_tests", "packs"),
+    "pack_files": ("pack_tests", "joined"),
     "pack_assembly": ("pack_tests", "assembly"),
     "pack_build": ("pack_tests", "building"),
     "osm_keys": ("osm_index_tests", "snapshots::cells"),
