@@ -1,1 +1,6 @@
+mod BesideLemmas
+mod FirstLemmas
+mod FurtherLemmas
 mod JoinedLemmas
+mod OverLemmas
+mod WrittenLemmas

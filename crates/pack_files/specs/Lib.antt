@@ -1,2 +1,5 @@
+pub mod Additions
 pub mod Files
+pub mod Further
 pub mod Joined
+pub mod internal
