@@ -1,7 +1,7 @@
 -- Where records stand that are laid out one after the other.
-use Rattle.std.proofs.Common.{◌≡◌, ◌≢◌, ◌<◌, ◌≤◌, ◌+◌, inl, inr, ℕ, List, [], ◌∷◌, ◌++◌, Bool, true, false, cond, Option, Some, None, arith, length, get_or, take, drop, refl, sym, ap, subst, ◌∙◌, take-append-drop}
+use Rattle.std.proofs.Common.{◌≡◌, ◌≢◌, ◌<◌, ◌≤◌, ◌+◌, inl, inr, ℕ, List, [], ◌∷◌, ◌++◌, Bool, true, false, cond, Option, Some, None, arith, length, length-append, get_or, take, drop, refl, sym, ap, subst, ◌∙◌, take-append-drop}
 use Rattle.std.specs.HashMap.{HashMap, IsEmpty, Updates, get}
-use Rattle.std.specs.List.{AllByRecursion}
+use Rattle.std.specs.List.{AllByRecursion, flat_map}
 use Rattle.std.specs.Map.{lookup}
 use Rattle.std.specs.Str.{bytes_eq}
 use Rattle.std.proofs.lemmas.Bool.{cases_Bool}
@@ -10,13 +10,27 @@ use Rattle.std.proofs.lemmas.Slice.Eq.{bytes_eq-Decides}
 use Rattle.tree_node.specs.Digests.{digest}
 use Rattle.tree_node.specs.Keys.{digest_eq}
 use Rattle.tree_node.specs.declared.digest.Digest.{Digest}
-use Rattle.node_pack.specs.Packs.{AreApart, Kept, pack_len, place_from, place_in, record_len}
+use Rattle.node_pack.specs.Packs.{AreApart, Kept, pack_len, place_from, place_in, record_bytes, record_len}
 use Rattle.node_pack.specs.declared.gathered.Gathered.{Gathered}
 use Rattle.node_pack.specs.declared.place.Place.{Place}
 use Rattle.node_pack.specs.internal.Gathering.{kept_of, kepts}
-use Rattle.node_pack.proofs.shared.RecordPlaces.{lens, lens-append, records_long}
+use Rattle.node_pack.proofs.RecordLemmas.{record_long}
 
 -- ---- lengths
+
+-- how many bytes records have
+abbrev pub lens : List Kept → ℕ
+lens [] = 0
+lens (x ∷ nodes) = record_len x + lens nodes
+
+pub lens-append : (xs ys : List Kept) → lens (xs ++ ys) ≡ lens xs + lens ys
+lens-append [] ys = omega arith
+lens-append (x ∷ xs) ys = omega (arith, lens-append xs ys)
+
+pub records_long : (place_of : List ℕ → Option Place) (nodes : List Kept) → length (flat_map (record_bytes place_of) nodes) ≡ lens nodes
+records_long place_of [] = refl
+records_long place_of (x ∷ nodes) =
+    omega (arith, length-append (record_bytes place_of x) (flat_map (record_bytes place_of) nodes), record_long place_of x, records_long place_of nodes)
 
 pub pack_lens : (nodes : List Kept) → pack_len nodes ≡ 60 + lens nodes
 pack_lens nodes = ap (λ (n : ℕ). 60 + n) (records_long (place_in nodes) nodes)
@@ -79,12 +93,12 @@ place_is p q e f = let parts : (at len : ℕ) → at ≡ q.at → len ≡ q.len 
 
 -- ---- places in a map
 
--- those of the nodes up to this one, from an offset on
-abbrev pub AreLaid : {S : Type 0} → ℕ → HashMap Digest Place S → List Kept → Type 0
-AreLaid first places nodes = (key : Digest) → get digest_eq places key ≡ place_from first nodes key.0
+-- those of the nodes up to this one
+abbrev pub AreLaid : {S : Type 0} → HashMap Digest Place S → List Kept → Type 0
+AreLaid places nodes = (key : Digest) → get digest_eq places key ≡ place_in nodes key.0
 
-pub none_laid : {S : Type 0} (first : ℕ) (places : HashMap Digest Place S) → IsEmpty places → AreLaid first places []
-none_laid first places empty key = ap (lookup (digest_eq key)) empty
+pub none_laid : {S : Type 0} (places : HashMap Digest Place S) → IsEmpty places → AreLaid places []
+none_laid places empty key = ap (lookup (digest_eq key)) empty
 
 module _ (nodes : List Gathered) (i : ℕ) (d : Gathered) (lt : i < length nodes) where
   -- those up to a place, and the one there
@@ -104,21 +118,20 @@ module _ (nodes : List Gathered) (i : ℕ) (d : Gathered) (lt : i < length nodes
       let e = ap lens kepts_all ∙ lens-append (kepts (take i nodes)) (kept_of (get_or nodes i d) ∷ kepts (drop (i + 1) nodes)) in
       omega (arith, e)
 
-  pub one_laid : {S : Type 0} (first : ℕ) (m n : HashMap Digest Place S) (k : Digest) (p : Place) → Updates digest_eq m n k (Some p) → k.0 ≡ digest (get_or nodes i d).bytes.now
-      → p ≡ record { at = first + lens (kepts (take i nodes)); len = record_len (kept_of (get_or nodes i d)) } → AreApart (kepts nodes) → AreLaid first m (kepts (take i nodes))
-      → AreLaid first n (kepts (take (i + 1) nodes))
-  one_laid first m n k p up own is apart old key =
+  pub one_laid : {S : Type 0} (m n : HashMap Digest Place S) (k : Digest) (p : Place) → Updates digest_eq m n k (Some p) → k.0 ≡ digest (get_or nodes i d).bytes.now
+      → p ≡ record { at = 60 + lens (kepts (take i nodes)); len = record_len (kept_of (get_or nodes i d)) } → AreApart (kepts nodes) → AreLaid m (kepts (take i nodes)) → AreLaid n (kepts (take (i + 1) nodes))
+  one_laid m n k p up own is apart old key =
       elim (cases_Bool (bytes_eq k.0 key.0)) [
         | inl hit ↦
             let same : k.0 ≡ key.0 = (bytes_eq-Decides k.0 key.0).0 hit in
             up.0 key ∙ by_true (digest_eq k key) (Some p) (get digest_eq m key) hit ∙ ap (λ (q : Place). Some q) is
-            ∙ sym (found_last first (kepts (take i nodes)) (kept_of (get_or nodes i d)) key.0 (sym own ∙ same) (subst (λ (l : List ℕ). place_from first (kepts (take i nodes)) l ≡ None) (sym own ∙ same) before))
-            ∙ ap (λ (l : List Kept). place_from first l key.0) (sym kepts_more)
+            ∙ sym (found_last 60 (kepts (take i nodes)) (kept_of (get_or nodes i d)) key.0 (sym own ∙ same) (subst (λ (l : List ℕ). place_from 60 (kepts (take i nodes)) l ≡ None) (sym own ∙ same) before))
+            ∙ ap (λ (l : List Kept). place_in l key.0) (sym kepts_more)
         | inr miss ↦
             up.0 key ∙ by_false (digest_eq k key) (Some p) (get digest_eq m key) miss ∙ old key
-            ∙ sym (found_before first (kepts (take i nodes)) (kept_of (get_or nodes i d)) key.0 (ap (λ (l : List ℕ). bytes_eq l key.0) (sym own) ∙ miss))
-            ∙ ap (λ (l : List Kept). place_from first l key.0) (sym kepts_more)
+            ∙ sym (found_before 60 (kepts (take i nodes)) (kept_of (get_or nodes i d)) key.0 (ap (λ (l : List ℕ). bytes_eq l key.0) (sym own) ∙ miss))
+            ∙ ap (λ (l : List Kept). place_in l key.0) (sym kepts_more)
       ]
     where
-      before : place_from first (kepts (take i nodes)) (digest (get_or nodes i d).bytes.now) ≡ None
-      before = none_before first (kepts (take i nodes)) (kept_of (get_or nodes i d)) (kepts (drop (i + 1) nodes)) (subst AreApart kepts_all apart)
+      before : place_from 60 (kepts (take i nodes)) (digest (get_or nodes i d).bytes.now) ≡ None
+      before = none_before 60 (kepts (take i nodes)) (kept_of (get_or nodes i d)) (kepts (drop (i + 1) nodes)) (subst AreApart kepts_all apart)

@@ -3,6 +3,7 @@ mod GatherLemmas
 mod HeaderLemmas
 mod LayoutLemmas
 mod PackLemmas
+mod PlaceMaps
 mod RecordLemmas
 mod RoleLemmas
 mod RoundLemmas
@@ -10,5 +11,5 @@ mod SourceLemmas
 mod StepLemmas
 mod TableLemmas
 mod WholeLemmas
+mod WriteLemmas
 mod WrittenLemmas
-pub mod shared

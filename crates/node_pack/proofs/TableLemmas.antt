@@ -12,7 +12,7 @@ use Rattle.node_pack.specs.Places.{place_bytes}
 use Rattle.node_pack.specs.declared.gathered.Gathered.{Gathered}
 use Rattle.node_pack.specs.declared.place.Place.{Place}
 use Rattle.node_pack.specs.internal.Gathering.{kept_of, kepts, place_by}
-use Rattle.node_pack.proofs.shared.WriteLemmas.{all_written, flat_map-map, one_more_written, part_written}
+use Rattle.node_pack.proofs.WriteLemmas.{all_written, flat_map-map, one_more_written, part_written}
 
 module _ {S : Type 0} (places : HashMap Digest Place S) where
   -- the place of a child, as it is written

@@ -17,7 +17,7 @@ use Rattle.node_pack.specs.declared.write_fault.WriteFault.{WriteFault}
 use Rattle.node_pack.specs.declared.write_fault.WriteFault.TheVariants as faults
 use Rattle.node_pack.specs.internal.Gathering.{IsLayoutFault, IsPackFault, IsWhole, kepts}
 use Rattle.node_pack.proofs.WholeLemmas.{all_reached, are_packed}
-use Rattle.node_pack.proofs.shared.WriteLemmas.{front_of_both, front_of_first}
+use Rattle.node_pack.proofs.WriteLemmas.{front_of_both, front_of_first}
 
 -- the one fault that is told
 pub told_is : {A : Type 0} (r : Result A WriteFault) (fault : WriteFault) (P : WriteFault → Type 0) → IsErrAnd r (λ told. told ≡ fault) → P fault → IfErr r P

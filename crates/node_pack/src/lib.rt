@@ -30,14 +30,9 @@ mod write_fault;
 mod writing;
 
 pub use fault::PackFault;
-pub use gathered::{Gathered, read_new};
-pub use header::{HEADER_LEN, Header};
 pub use laws::{header_law, hint_law, limits_law};
-pub use layout::lay_out;
-pub use learn::FILE_LIMIT;
 pub use place::Place;
 pub use read_at::{ReadAt, ReadFault};
-pub use records::{append_header, write_records};
 pub use source::PackSource;
 pub use write_fault::WriteFault;
 pub use writing::write_pack;

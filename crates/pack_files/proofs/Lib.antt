@@ -1,6 +1,1 @@
-mod BesideLemmas
-mod FirstLemmas
-mod FurtherLemmas
 mod JoinedLemmas
-mod OverLemmas
-mod WrittenLemmas

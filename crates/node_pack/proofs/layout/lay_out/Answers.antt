@@ -1,10 +1,9 @@
-use Rattle.std.proofs.Common.{◌+◌, ◌*◌, ◌^◌, List, ap, arith, sym, ◌∙◌}
+use Rattle.std.proofs.Common.{◌+◌, List, ap, arith, sym, ◌∙◌}
 use Rattle.std.proofs.lemmas.List.{take_all}
 use Rattle.std.proofs.lemmas.List.Elements.{All-from_recursion}
 use Rattle.node_pack.specs.declared.gathered.Gathered.{Gathered}
 use Rattle.node_pack.specs.internal.Gathering.{IsMeasured, kepts}
-use Rattle.node_pack.proofs.LayoutLemmas.{lens_more, lens_within, one_laid, pack_lens, place_is}
-use Rattle.node_pack.proofs.shared.RecordPlaces.{lens}
+use Rattle.node_pack.proofs.LayoutLemmas.{lens, lens_more, lens_within, one_laid, pack_lens, place_is}
 use Rattle.node_pack.proofs.layout.lay_out.Goals as goal
 
 pub returns-then-end-gt-FILE_LIMIT-clause-refused : goal.returns-then-end-gt-FILE_LIMIT-clause-refused
@@ -32,9 +31,8 @@ loop-node-preserved c =
     record {
       place = omega (arith, c.loop-node.invariant.place, lens_more nodes i d c.loop-node-test.true, len);
       short = omega (arith, c.if-end-gt-FILE_LIMIT.false);
-      laid = one_laid nodes i d c.loop-node-test.true (c.args.number * 2 ^ 48 + 60) c.loop-node.places c.insert.new.self d.key _ c.in_ok-insert.ensures.updates
-          (ap (λ (n : Gathered). n.key.0) c.node-item.is ∙ measured.key)
-          (place_is _ _ (omega (arith, c.loop-node.invariant.place, c.from-file.ensures)) (ap (λ (n : Gathered). n.len) c.node-item.is ∙ measured.len)) c.requires.apart c.loop-node.invariant.laid;
+      laid = one_laid nodes i d c.loop-node-test.true c.loop-node.places c.insert.new.self d.key (record { at = c.loop-node.at; len = d.len }) c.in_ok-insert.ensures.updates
+          (ap (λ (n : Gathered). n.key.0) c.node-item.is ∙ measured.key) (place_is _ _ c.loop-node.invariant.place (ap (λ (n : Gathered). n.len) c.node-item.is ∙ measured.len)) c.requires.apart c.loop-node.invariant.laid;
     }
 
 pub returns-clause-len : goal.returns-clause-len

@@ -1,5 +1,5 @@
 use Rattle.node_pack.proofs.PackLemmas.{none_false}
-use Rattle.node_pack.proofs.shared.PlaceMaps.{only_known}
+use Rattle.node_pack.proofs.PlaceMaps.{only_known}
 use Rattle.node_pack.proofs.learn.first_places.Goals as goal
 
 pub returns-clause-only : goal.returns-clause-only

@@ -1,4 +1,4 @@
-use Rattle.node_pack.proofs.shared.PlaceMaps.{known_only, known_stays, trues_stay}
+use Rattle.node_pack.proofs.PlaceMaps.{known_only, known_stays, trues_stay}
 use Rattle.node_pack.proofs.learn.remember.Goals as goal
 
 pub returns-in_ok-insert-clause-keeps : goal.returns-in_ok-insert-clause-keeps

@@ -1,5 +1,5 @@
 use Rattle.std.proofs.Common.{refl}
-use Rattle.node_pack.proofs.shared.WriteLemmas.{six_appended, six_are}
+use Rattle.node_pack.proofs.WriteLemmas.{six_appended, six_are}
 use Rattle.node_pack.proofs.records.append_header.Goals as goal
 
 pub returns : goal.returns

@@ -1,4 +1,4 @@
-use Rattle.node_pack.proofs.shared.WriteLemmas.{one_begun, two_begun, two_written}
+use Rattle.node_pack.proofs.WriteLemmas.{one_begun, two_begun, two_written}
 use Rattle.node_pack.proofs.records.write_place.Goals as goal
 
 pub returns-in_err-write_whole-clause-begun : goal.returns-in_err-write_whole-clause-begun

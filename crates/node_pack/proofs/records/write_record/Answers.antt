@@ -2,7 +2,7 @@ use Rattle.std.proofs.Common.{List, ap}
 use Rattle.tree_node.specs.declared.digest.Digest.{Digest}
 use Rattle.node_pack.specs.Packs.{digests_of, table}
 use Rattle.node_pack.specs.internal.Gathering.{place_by}
-use Rattle.node_pack.proofs.shared.WriteLemmas.{one_begun, second_begun, three_begun, three_written}
+use Rattle.node_pack.proofs.WriteLemmas.{one_begun, second_begun, three_begun, three_written}
 use Rattle.node_pack.proofs.records.write_record.Goals as goal
 
 pub returns-in_err-write_whole-clause-begun : goal.returns-in_err-write_whole-clause-begun

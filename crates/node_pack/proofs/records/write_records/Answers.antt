@@ -1,4 +1,4 @@
-use Rattle.node_pack.proofs.shared.WriteLemmas.{front_of_whole}
+use Rattle.node_pack.proofs.WriteLemmas.{front_of_whole}
 use Rattle.node_pack.proofs.TableLemmas.{records_begun, records_more, records_written}
 use Rattle.node_pack.proofs.records.write_records.Goals as goal
 

@@ -1,5 +1,5 @@
 use Rattle.std.proofs.Common.{[]}
-use Rattle.node_pack.proofs.shared.WriteLemmas.{front_of_whole}
+use Rattle.node_pack.proofs.WriteLemmas.{front_of_whole}
 use Rattle.node_pack.proofs.TableLemmas.{table_begun, table_more, table_written}
 use Rattle.node_pack.proofs.records.write_table.Goals as goal
 

@@ -1,5 +1,0 @@
--- Lemmas for the crates above.
-pub mod PackPlaces
-pub mod PlaceMaps
-pub mod RecordPlaces
-pub mod WriteLemmas

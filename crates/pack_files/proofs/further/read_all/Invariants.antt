@@ -1,8 +1,0 @@
-use Rattle.std.proofs.Common.{take}
-use Rattle.pack_files.specs.Additions.{bytes_of}
-use Rattle.pack_files.specs.internal.Laying.{AreFit}
-use Rattle.pack_files.proofs.further.read_all.Given as goal
-
--- the nodes so far
-abbrev pub invariant-loop-node : goal.invariant-loop-node
-invariant-loop-node l = AreFit (bytes_of (take l.node-index l.nodes)) l.read.items
