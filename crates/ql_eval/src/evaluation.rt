@@ -186,10 +186,10 @@ pub fn evaluate_in<'a, S: Shelf<'a>, T: Sink>(
 /// that a recursion starts from; and each object that is printed. What was asked before and is remembered is counted as if it
 /// were done again.
 ///
-/// Of what a tag, a key, a box or a scan finds no more is read than the budget has left, of a box twice as much. Where there is
-/// more, it is counted by walks that fetch only nodes at the ends of its ranges, so that it is refused with `Work`. What paths
-/// and recursions find is counted once it is found: it is bounded by what the objects of the set list that they start from, or
-/// by what lists them.
+/// Of what a tag, a key or a box finds, and of each kind that a scan goes through, no more is read than the budget has left, of
+/// a box twice as much. Where there is more, it is counted by walks that fetch only nodes at the ends of its ranges, so that it
+/// is refused with `Work`. What paths and recursions find is counted once it is found: it is bounded by what the objects of the
+/// set list that they start from, or by what lists them.
 ///
 /// A refusal leaves the text of the sink as it was. The nodes that were fetched until then stay used.
 pub fn evaluate_within<'a, S: Shelf<'a>, T: Sink>(

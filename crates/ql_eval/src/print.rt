@@ -30,6 +30,9 @@ use osm_model::{Object, OutMode, Ref};
 use ref_sets::RefSet;
 use std::alloc::{AllocError, Global};
 
+/// Most lines have fewer bytes than this; a longer one grows.
+const LINE_ROOM: usize = 256;
+
 /// Writes the first objects of a set in a form, by kind and rising id, at most so many. By ids nothing is asked; in every other
 /// mode each object is asked of the source, `Absent` where one isn't there.
 pub(crate) fn print<W: Source, T: Sink>(
@@ -226,6 +229,7 @@ fn put_object<T: Sink>(
         (IsCounted meter.old.spent meter.new.spent (length (form_text form object.now mode))) }
 {
     line.clear();
+    line.reserve(LINE_ROOM)?;
     form.write_object(object, mode, line)?;
     meter.charge_bytes(line.len())?;
     sink.put(line)

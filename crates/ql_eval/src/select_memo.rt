@@ -88,14 +88,16 @@ impl<'s, 'q> SelectMemo<'s, 'q> {
         }
     }
 
+    /// Whether it may remember a statement.
+    pub(crate) fn remembers(&self) -> bool {
+        self.room > 0
+    }
+
     /// The statement that was asked before, over the same sets, if it is remembered.
     pub(crate) fn recalled(&self, asked: &AskedSelect<'_, '_>) -> Option<&RememberedSelect<'s, 'q>>
         ensures { IfSome result (λ one. Contains self.now.remembered.items one.now
             × AsksTheSame asked.now one.now.asked) }
     {
-        if self.remembered.is_empty() {
-            return None;
-        }
         let place = *self.places.get(&asked.number())?;
         if place >= self.remembered.len() {
             return None;

@@ -74,6 +74,10 @@ pub(crate) fn select_once<'s, 'q, W: Source>(
         → IsSpent (WorkOfSelect p env pick (filters_of filters.now))
         meter.old.spent meter.new.spent) }
 {
+    if !memo.remembers() {
+        let refs = select(alloc, source, meter, pick, filters, sets)?;
+        return Ok(Rc::new(alloc, refs)?);
+    }
     let asked = AskedSelect {
         pick,
         filters,
