@@ -3,7 +3,7 @@
 # memory, counted by valgrind, so that other work on the machine changes nothing. The set is the extract of the given share of
 # 1,155,000 objects. OLD names a checkout of the older commit; in it and here the libraries that the program uses are proved
 # already, as ./test or `rt lib` leaves them. It ends where the two answer otherwise. The last column is with a budget that the
-# query keeps.
+# query keeps. Of the two nodes that are asked for by their ids, 1002 is in the set and 1001 isn't.
 #
 #   apt-get install valgrind
 #   OLD=CHECKOUT bench/everyday.sh [SHARE]
@@ -62,6 +62,7 @@ while IFS= read -r query; do
         printf "%-44s %12d %12d %8.4f %12d %8.4f\n", query, was, is, is / was, bound, bound / was
     }'
 done <<'QUERIES'
+node(1002);out meta;
 node(1001);out meta;
 node(52.0,13.0,52.06,13.06);out meta;
 nwr[mark=seldom];out meta;

@@ -377,7 +377,7 @@ def calculated(boxes):
     values = [node.hex() for node in nodes] + [digest(levels[-1][0]).hex() for levels in (of_65, of_three)]
     values += [text.hex() for text in four[3][0]]
     values += [trees.root_of(lines, *of) for lines in ([], FOUR) for of in ((1,), (2, 0), (2, 7))]
-    values.append(packs.pack_of(packs.example()).hex())
+    values += [packs.pack_of(packs.example()).hex(), packs.further_example().hex()]
     return values + boxes + [key.hex() for key, _ in (KEYS_130[0], KEYS_130[-1])] + [b"a\0".hex(), "3f00", "01000000"]
 
 

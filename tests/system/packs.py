@@ -1,5 +1,6 @@
 """Packs, written and read by what docs/FORMATS.md says of them and with hashlib alone: no code of the program has a part in
-it. Run by itself it prints the pack of the chapter's example and that of the four objects of the worked queries."""
+it. Run by itself it prints the pack of the chapter's example and that of the four objects of the worked queries, and the further file of
+the chapter's example."""
 
 import sys
 from typing import NamedTuple
@@ -10,10 +11,11 @@ HEADER = 60
 
 
 class Place(NamedTuple):
-    """Where a record stands: its offset and its length."""
+    """Where a record stands: its offset, its length and the number of its file."""
 
     at: int
     length: int
+    file: int = 0
 
 
 def children_of(node):
@@ -40,20 +42,40 @@ def in_order(manifest, trees):
 
 
 def place_bytes(place):
-    return number(0, 2) + number(place.at, 6) + number(place.length, 4)
+    return number(place.file, 2) + number(place.at, 6) + number(place.length, 4)
+
+
+def places_of(nodes, file=0):
+    """Where the records of these nodes stand in the file with a number, by digest."""
+    places, at = {}, HEADER
+    for node in nodes:
+        place = Place(at, 4 + len(node) + 12 * len(children_of(node)), file)
+        places[digest(node)] = place
+        at += place.length
+    return places
+
+
+def records_of(nodes, places):
+    """The records of these nodes; a child's place is the one under its digest."""
+    return b"".join(number(len(node), 4) + node + b"".join(place_bytes(places[it]) for it in children_of(node)) for node in nodes)
 
 
 def pack_of(nodes):
     """The pack of these nodes, of which the first is the manifest."""
-    places, at = {}, HEADER
-    for node in nodes:
-        place = Place(at, 4 + len(node) + 12 * len(children_of(node)))
-        places[digest(node)] = place
-        at += place.length
-    root = places[digest(nodes[0])]
-    header = b"OSMK" + number(1, 2) + bytes(2) + digest(nodes[0]) + number(at, 8) + number(root.at, 8) + number(root.length, 4)
-    records = (number(len(node), 4) + node + b"".join(place_bytes(places[it]) for it in children_of(node)) for node in nodes)
-    return header + b"".join(records)
+    places = places_of(nodes)
+    root, records = digest(nodes[0]), records_of(nodes, places)
+    place = places[root]
+    header = b"OSMK" + number(1, 2) + bytes(2) + root + number(HEADER + len(records), 8) + number(place.at, 8) + number(place.length, 4)
+    return header + records
+
+
+def further_of(file, nodes, old):
+    """The further file with a number that has these nodes, of which the first is the manifest, beside files in which nodes have
+    their old places."""
+    places = {**old, **places_of(nodes, file)}
+    root, records = digest(nodes[0]), records_of(nodes, places)
+    header = b"OSMK" + number(2, 2) + bytes(2) + root + number(HEADER + len(records), 8) + place_bytes(places[root])
+    return header + records
 
 
 def record_at(pack, place):
@@ -79,13 +101,19 @@ def nodes_of(pack):
     return pack[8:40], nodes_below(pack, pack[8:40], place)
 
 
-def example():
-    """The manifest of edition 1 over the tree of tags with the keys `a` and `b`, a leaf each, and three empty trees."""
-    leaves = [leaf(2, [(key, b"")]) for key in (b"a", b"b")]
-    top = inner(2, 1, [Item(key, 1, digest(node)) for key, node in zip((b"a", b"b"), leaves)])
+def example(keys=(b"a", b"b")):
+    """The manifest of edition 1 over the tree of tags with two keys, a leaf each, and three empty trees."""
+    leaves = [leaf(2, [(key, b"")]) for key in keys]
+    top = inner(2, 1, [Item(key, 1, digest(node)) for key, node in zip(keys, leaves)])
     trees = [[[leaf(1, [])]], [leaves, [top]], [[leaf(3, [])]], [[leaf(4, [])]]]
     manifest = b"OSMM\1" + b"".join(digest(levels[-1][0]) for levels in trees)
     return in_order(manifest, trees)
+
+
+def further_example():
+    """The further file with the number 1 that makes the keys `a` and `c` of the example's keys."""
+    before, after = example(), example((b"a", b"c"))
+    return further_of(1, [node for node in after if node not in before], places_of(before))
 
 
 def four_objects(sequence=7):
@@ -123,6 +151,9 @@ def main():
         assert sorted(found) == sorted(nodes)
         print(root.hex(), len(pack), len(nodes))
         print(literal(pack) if "--literal" in sys.argv else pack.hex())
+    further = further_example()
+    print(further[8:40].hex(), len(further))
+    print(literal(further) if "--literal" in sys.argv else further.hex())
 
 
 if __name__ == "__main__":

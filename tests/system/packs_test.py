@@ -3,7 +3,7 @@ have."""
 
 import re
 
-from packs import example, four_objects, nodes_of, pack_of
+from packs import example, four_objects, further_example, nodes_of, pack_of
 from runs import TOP, Tally
 from trees import digest
 
@@ -37,7 +37,9 @@ def main():
     text = (TOP / "docs/FORMATS.md").read_text(encoding="utf-8")
     chapter = text[text.index("\n## Packs\n") :]
     worked = "".join(re.findall(r"^    ([0-9a-f]+)$", chapter, re.MULTILINE))
-    tally.check("the worked pack", worked == pack_of(example()).hex(), worked)
+    tally.check("the worked pack and the file beside it", worked == (pack_of(example()) + further_example()).hex(), worked)
+    found = literals("crates/pack_tests/src/tests/packs/further.rt")
+    tally.check("the file beside it stands in the tests", further_example() in found and further_example()[8:40] in found)
     tally.end()
 
 

@@ -1,3 +1,5 @@
+mod AddedLemmas
+mod BesideLemmas
 mod ChildLemmas
 mod GatherLemmas
 mod HeaderLemmas
@@ -13,3 +15,4 @@ mod TableLemmas
 mod WholeLemmas
 mod WriteLemmas
 mod WrittenLemmas
+pub mod shared

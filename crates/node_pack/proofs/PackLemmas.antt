@@ -1,165 +1,30 @@
--- What stands where in a pack.
-use Rattle.std.proofs.Common.{◌≡◌, ◌≤◌, ◌<◌, ◌+◌, ◌-◌, ◌^◌, ◌⊎◌, inl, inr, ℕ, List, [], ◌∷◌, ◌++◌, Bool, true, false, cond, Option, Some, None, IsSome, length, take, drop, min, refl, sym, ap, subst, ◌∙◌, arith, append_assoc, length-append, length-take, w32, w64}
+-- What is read of a pack.
+use Rattle.std.proofs.Common.{◌≡◌, ◌≤◌, ◌<◌, ◌+◌, ◌-◌, ◌^◌, ◌⊎◌, inl, inr, ℕ, List, [], ◌∷◌, ◌++◌, Option, Some, None, length, take, drop, min, refl, sym, ap, subst, ◌∙◌, arith, length-append, length-take, w32}
 use Rattle.std.specs.Int.{to_be_bytes}
 use Rattle.std.specs.HashMap.{HashMap, IsEmpty}
 use Rattle.std.specs.Map.{lookup}
 use Rattle.tree_node.specs.Keys.{digest_eq}
-use Rattle.std.specs.List.{AllByRecursion, Contains, flat_map}
-use Rattle.std.specs.Str.{bytes_eq}
+use Rattle.std.specs.List.{AllByRecursion, Contains}
 use Rattle.std.specs.Prelude.{OnOk, IfErr, IsErrAnd, Result, Ok, Err, unwrap_or}
 use Rattle.std.proofs.Math.Seq.{take-append-add}
 use Rattle.std.proofs.lemmas.Bool.{cases_order}
-use Rattle.std.proofs.lemmas.List.{drop_at, take_at, take_all, take-append-le, take-take}
-use Rattle.std.proofs.lemmas.Slice.Eq.{bytes_eq-Decides}
-use Rattle.osm_keys.proofs.shared.Members.{first_or_in_rest, here, in_rest}
+use Rattle.std.proofs.lemmas.List.{take_at, take_all, take-append-le, take-take}
 use Rattle.tree_node.specs.Digests.{digest}
 use Rattle.tree_node.specs.declared.digest.Digest.{Digest}
 use Rattle.tree_node.proofs.shared.FieldLemmas.{wide32}
-use Rattle.node_pack.specs.declared.header.TheConstants.{MAGIC, VERSION}
+use Rattle.node_pack.specs.declared.header.TheConstants.{VERSION}
 use Rattle.node_pack.specs.Headers.{header_at, header_bytes}
 use Rattle.node_pack.specs.declared.fault.PackFault.{PackFault}
 use Rattle.node_pack.specs.Known.{AreTrue, IsPlaced}
-use Rattle.node_pack.specs.Packs.{HasChildren, IsKept, IsPack, Kept, no_place, node_in, pack, pack_len, place_from, place_in, record_bytes, record_len, records_in, table}
-use Rattle.node_pack.specs.Placed.{HasNodeAt, HasNodesAt}
-use Rattle.node_pack.specs.Places.{at_place, place_bytes}
+use Rattle.node_pack.specs.Packs.{HasChildren, IsPack, Kept, no_place, node_in, pack, place_in, record_bytes, records_in, table}
+use Rattle.node_pack.specs.Placed.{HasNodeAt}
 use Rattle.node_pack.specs.declared.header.Header.{Header}
 use Rattle.node_pack.specs.declared.place.Place.{Place}
 use Rattle.node_pack.proofs.ChildLemmas.{few_children}
 use Rattle.node_pack.proofs.HeaderLemmas.{header_again}
-use Rattle.node_pack.proofs.RecordLemmas.{node_again, place_long, record_long}
-
--- what is so of each of a list is so of what it contains
-pub of_each : {X : Type 0} (P : X → Type 0) (xs : List X) (x : X) → AllByRecursion P xs → Contains xs x → P x
-of_each P [] x all h = absurd (omega (arith, h.1))
-of_each P (y ∷ xs) x all h = elim (first_or_in_rest y xs x h) [ inl e ↦ subst P e all.0 | inr more ↦ of_each P xs x all.1 more ]
-
--- The record of a node with this digest stands at this place of the bytes, before their end.
-pub record HasRecord (place_of : List ℕ → Option Place) (nodes : List Kept) (bytes key : List ℕ) (end : ℕ) (place : Place) : Type 0 where
-  pub kept : Kept
-  pub is_in : Contains nodes kept
-  pub has_digest : digest kept.bytes ≡ key
-  pub stands : at_place place bytes ≡ record_bytes place_of kept
-  pub len : place.len ≡ record_len kept
-  pub within : place.at + place.len ≤ end
-
--- where a search among records finds a node
-by_test : (place_of : List ℕ → Option Place) (before : List ℕ) (kept : Kept) (others : List Kept) (key : List ℕ) (place : Place) (b : Bool) → bytes_eq (digest kept.bytes) key ≡ b
-    → cond b (Some (record { at = length before; len = record_len kept })) (place_from (length before + record_len kept) others key) ≡ Some place
-    → (place_from (length before + record_len kept) others key ≡ Some place
-    → HasRecord place_of others (before ++ (record_bytes place_of kept ++ flat_map (record_bytes place_of) others)) key (length before + length (record_bytes place_of kept ++ flat_map (record_bytes place_of) others)) place)
-    → HasRecord place_of (kept ∷ others) (before ++ (record_bytes place_of kept ++ flat_map (record_bytes place_of) others)) key (length before + length (record_bytes place_of kept ++ flat_map (record_bytes place_of) others)) place
-by_test place_of before kept others key place true hit is more =
-    let one = record_bytes place_of kept in
-    let rest = flat_map (record_bytes place_of) others in
-    let p : Place = record { at = length before; len = record_len kept } in
-    let same : p ≡ place = some_is p place is in
-    subst (HasRecord place_of (kept ∷ others) (before ++ (one ++ rest)) key (length before + length (one ++ rest))) same (record {
-      kept = kept;
-      is_in = here kept others;
-      has_digest = (bytes_eq-Decides (digest kept.bytes) key).0 hit;
-      stands = ap (λ (l : List ℕ). take (record_len kept) l) (drop_at before (one ++ rest) (length before) refl) ∙ take_at one rest (record_len kept) (record_long place_of kept);
-      len = refl;
-      within = omega (arith, length-append one rest, record_long place_of kept);
-    })
-  where
-    some_is : (a b : Place) → Some a ≡ Some b → a ≡ b
-    some_is a b e = Prim.cc
-by_test place_of before kept others key place false miss is more =
-    let found = more is in
-    record {
-      kept = found.kept;
-      is_in = in_rest kept others found.kept found.is_in;
-      has_digest = found.has_digest;
-      stands = found.stands;
-      len = found.len;
-      within = found.within;
-    }
-
-pub there : (place_of : List ℕ → Option Place) (before : List ℕ) (nodes : List Kept) (key : List ℕ) (place : Place) → place_from (length before) nodes key ≡ Some place
-    → HasRecord place_of nodes (before ++ flat_map (record_bytes place_of) nodes) key (length before + length (flat_map (record_bytes place_of) nodes)) place
-there place_of before [] key place is = absurd (Prim.cc)
-there place_of before (kept ∷ others) key place is =
-    let one = record_bytes place_of kept in
-    let rest = flat_map (record_bytes place_of) others in
-    by_test place_of before kept others key place (bytes_eq (digest kept.bytes) key) refl is (λ later.
-    let longer : length (before ++ one) ≡ length before + record_len kept = length-append before one ∙ ap (λ (n : ℕ). length before + n) (record_long place_of kept) in
-    let found = there place_of (before ++ one) others key place (ap (λ (n : ℕ). place_from n others key) longer ∙ later) in
-    let whole : (before ++ one) ++ rest ≡ before ++ (one ++ rest) = append_assoc before one rest in
-    record {
-      kept = found.kept;
-      is_in = found.is_in;
-      has_digest = found.has_digest;
-      stands = ap (at_place place) (sym whole) ∙ found.stands;
-      len = found.len;
-      within = omega (arith, found.within, length-append before one, length-append one rest);
-    })
-
-header_long : (h : Header) → length h.root.0 ≡ 32 → length (header_bytes h) ≡ 60
-header_long h wide =
-    omega (
-      arith,
-      length-append (to_be_bytes w32 MAGIC) (to_be_bytes w32 VERSION ++ (h.root.0 ++ (to_be_bytes w64 h.size ++ place_bytes h.manifest))),
-      length-append (to_be_bytes w32 VERSION) (h.root.0 ++ (to_be_bytes w64 h.size ++ place_bytes h.manifest)),
-      length-append h.root.0 (to_be_bytes w64 h.size ++ place_bytes h.manifest),
-      length-append (to_be_bytes w64 h.size) (place_bytes h.manifest),
-      place_long h.manifest,
-      wide,
-    )
-
--- in a pack
-pub in_pack : (root : List ℕ) (nodes : List Kept) (key : List ℕ) (place : Place) → length root ≡ 32 → place_in nodes key ≡ Some place
-    → HasRecord (place_in nodes) nodes (pack root nodes) key (pack_len nodes) place
-unfolding pack
-in_pack root nodes key place wide is =
-    let header : Header = record { root = record { 0 = root }; size = pack_len nodes; manifest = unwrap_or (place_in nodes root) no_place } in
-    let long : length (header_bytes header) ≡ 60 = header_long header wide in
-    let found = there (place_in nodes) (header_bytes header) nodes key place (ap (λ (n : ℕ). place_from n nodes key) long ∙ is) in
-    subst (λ (n : ℕ). HasRecord (place_in nodes) nodes (header_bytes header ++ records_in nodes) key (n + length (records_in nodes)) place) long found
-
--- the children of its nodes have places
-pub are_placed : (root : List ℕ) (nodes : List Kept) → IsPack (pack root nodes) root nodes → (keys : List (List ℕ)) → AllByRecursion (λ (key : List ℕ). IsSome (place_in nodes key)) keys
-    → AllByRecursion (IsPlaced (place_in nodes) (2 ^ 48)) keys
-are_placed root nodes is [] all = tt
-are_placed root nodes is (key ∷ keys) all = (one (place_in nodes key) refl all.0, are_placed root nodes is keys all.1)
-  where
-    one : (o : Option Place) → place_in nodes key ≡ o → IsSome o → IsPlaced (place_in nodes) (2 ^ 48) key
-    one None none some = absurd (Prim.cc)
-    one (Some place) found some =
-        let has = in_pack root nodes key place is.wide found in
-        let short = (of_each (IsKept nodes) nodes has.kept is.kept has.is_in).short in
-        record {
-          place = place;
-          is = found;
-          near = omega (arith, has.within, has.len, is.short);
-          wide = omega (arith, has.within, has.len, is.short);
-          short = omega (arith, has.len, short);
-        }
-
--- the header of a pack
-abbrev pub header_in : List ℕ → List Kept → Header
-header_in root nodes = record { root = record { 0 = root }; size = pack_len nodes; manifest = unwrap_or (place_in nodes root) no_place }
-
-pub pack_long : (root : List ℕ) (nodes : List Kept) → length root ≡ 32 → length (pack root nodes) ≡ pack_len nodes
-unfolding pack
-pack_long root nodes wide =
-    omega (arith, length-append (header_bytes (header_in root nodes)) (records_in nodes), header_long (header_in root nodes) wide)
-
--- a pack has its nodes at their places
-pub packed : (root : List ℕ) (nodes : List Kept) → IsPack (pack root nodes) root nodes → HasNodesAt (pack root nodes) (2 ^ 48) (place_in nodes) nodes
-packed root nodes is key place found =
-    let has = in_pack root nodes key place is.wide found in
-    let own = of_each (IsKept nodes) nodes has.kept is.kept has.is_in in
-    record {
-      kept = has.kept;
-      is_in = has.is_in;
-      has_digest = has.has_digest;
-      children = own.children;
-      placed = are_placed root nodes is has.kept.children own.closed;
-      short = own.short;
-      stands = has.stands;
-      len = has.len;
-      within = subst (λ (n : ℕ). place.at + place.len ≤ n) (sym (pack_long root nodes is.wide)) has.within;
-    }
+use Rattle.node_pack.proofs.RecordLemmas.{node_again}
+use Rattle.node_pack.proofs.shared.PackPlaces.{are_placed, header_in, pack_long}
+use Rattle.node_pack.proofs.shared.RecordPlaces.{header_long, record_long}
 
 -- ---- what is read at a place
 
@@ -289,7 +154,7 @@ has_header root nodes header is read =
     let h = header_in root nodes in
     let placed = (are_placed root nodes is (root ∷ []) (is.rooted, tt)).0 in
     let place : h.manifest ≡ placed.place = ap (λ (o : Option Place). unwrap_or o no_place) placed.is in
-    let long = header_long h is.wide in
+    let long = header_long VERSION h is.wide in
     let front : take 60 (pack root nodes) ≡ header_bytes h = take_at (header_bytes h) (records_in nodes) 60 long in
     let near : h.manifest.at < 2 ^ 48 = subst (λ (p : Place). p.at < 2 ^ 48) (sym place) placed.near in
     let short : h.manifest.len < 2 ^ 32 = subst (λ (p : Place). p.len < 2 ^ 32) (sym place) placed.short in

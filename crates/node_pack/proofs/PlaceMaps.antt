@@ -58,6 +58,6 @@ all_known_stay m n keeps [] all = tt
 all_known_stay m n keeps (key ∷ keys) all = (keeps key all.0, all_known_stay m n keeps keys all.1)
 
 -- what is so of each of a list, and of one more
-pub all_and : (P : List ℕ → Type 0) (keys : List (List ℕ)) (key : List ℕ) → AllByRecursion P keys → P key → AllByRecursion P (keys ++ key ∷ [])
-all_and P [] key all one = (one, tt)
-all_and P (x ∷ keys) key all one = (all.0, all_and P keys key all.1 one)
+pub all_and : {X : Type 0} (P : X → Type 0) (xs : List X) (x : X) → AllByRecursion P xs → P x → AllByRecursion P (xs ++ x ∷ [])
+all_and P [] x all one = (one, tt)
+all_and P (y ∷ xs) x all one = (all.0, all_and P xs x all.1 one)

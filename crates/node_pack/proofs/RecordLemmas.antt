@@ -1,6 +1,5 @@
 -- The bytes of places, tables and records, and what is read of them.
-use Rattle.std.proofs.Common.{◌≡◌, ◌≤◌, ◌<◌, ◌+◌, ◌*◌, ◌^◌, ℕ, List, [], ◌∷◌, ◌++◌, Option, Some, length, get_or, take, drop, refl, sym, ap, subst, ◌∙◌, arith, length-append, w32, w64}
-use Rattle.std.specs.Int.{to_be_bytes}
+use Rattle.std.proofs.Common.{◌≡◌, ◌≤◌, ◌<◌, ◌+◌, ◌^◌, ℕ, List, [], ◌∷◌, ◌++◌, Option, Some, length, get_or, take, drop, refl, sym, ap, subst, ◌∙◌, arith, length-append}
 use Rattle.std.specs.List.{AllByRecursion}
 use Rattle.std.specs.Prelude.{unwrap_or}
 use Rattle.std.proofs.lemmas.List.{take_all, take_at, take_more, drop_at, drop_more, map-append}
@@ -8,14 +7,12 @@ use Rattle.std.specs.HashMap.{HashMap}
 use Rattle.tree_node.proofs.shared.FieldLemmas.{wide32, wide64}
 use Rattle.tree_node.specs.declared.digest.Digest.{Digest}
 use Rattle.node_pack.specs.Known.{AreTrue, IsBetween, IsKnown, IsTable}
-use Rattle.node_pack.specs.Packs.{Kept, digests_of, no_place, node_in, record_bytes, record_len, table}
+use Rattle.node_pack.specs.Packs.{Kept, digests_of, no_place, node_in, record_bytes, table}
 use Rattle.node_pack.specs.internal.Reading.{table_in}
 use Rattle.node_pack.specs.Places.{first_place, place_bytes}
 use Rattle.node_pack.specs.declared.place.Place.{Place}
 use Rattle.node_pack.proofs.PlaceMaps.{all_and, all_known_stay}
-
-pub place_long : (p : Place) → length (place_bytes p) ≡ 12
-place_long p = omega (arith, length-append (to_be_bytes w64 p.at) (to_be_bytes w32 p.len), wide64.len p.at, wide32.len p.len)
+use Rattle.node_pack.proofs.shared.RecordPlaces.{place_long}
 
 -- a place has these parts
 place_is : (p : Place) (at len : ℕ) → at ≡ p.at → len ≡ p.len → record { at = at; len = len } ≡ p
@@ -28,22 +25,6 @@ place_again p rest far short = place_is p _ _ (wide64.again p.at far) (wide32.ag
 -- what follows it
 pub after_place : (p : Place) (rest : List ℕ) → drop 12 (place_bytes p ++ rest) ≡ rest
 after_place p rest = drop_at (place_bytes p) rest 12 (place_long p)
-
-pub table_long : (place_of : List ℕ → Option Place) (children : List (List ℕ)) → length (table place_of children) ≡ 12 * length children
-table_long place_of [] = refl
-table_long place_of (child ∷ children) =
-    let p = unwrap_or (place_of child) no_place in
-    omega (arith, length-append (place_bytes p) (table place_of children), place_long p, table_long place_of children)
-
-pub record_long : (place_of : List ℕ → Option Place) (kept : Kept) → length (record_bytes place_of kept) ≡ record_len kept
-record_long place_of kept =
-    omega (
-      arith,
-      length-append (to_be_bytes w32 (length kept.bytes)) (kept.bytes ++ table place_of kept.children),
-      length-append kept.bytes (table place_of kept.children),
-      wide32.len (length kept.bytes),
-      table_long place_of kept.children,
-    )
 
 -- the node and the table of a record
 module _ (place_of : List ℕ → Option Place) (kept : Kept) (short : length kept.bytes < 2 ^ 32) where

@@ -12,7 +12,7 @@ use Rattle.std.specs.List.Sorted.{IsPermutation, IsSorted}
 use Rattle.std.specs.Ordering.{eq_by_cmp, is_eq, nat_cmp}
 use Rattle.std.specs.declared.cmp.Ordering.{Ordering}
 use Rattle.std.specs.declared.cmp.Ordering.TheVariants.{Less, Equal, Greater}
-use Rattle.node_pack.proofs.PackLemmas.{of_each}
+use Rattle.node_pack.proofs.shared.RecordPlaces.{of_each}
 use Rattle.node_pack.specs.contracts.place.PlaceOrd.TheImpl as order
 use Rattle.node_pack.specs.contracts.place.PlacePartialEq.TheImpl as equality
 use Rattle.node_pack.specs.declared.place.Place.{Place}

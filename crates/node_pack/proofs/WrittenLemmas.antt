@@ -8,7 +8,7 @@ use mathlib.Core.Path.{fun_ext}
 use Rattle.byte_io.specs.Written.{AppendsFront}
 use Rattle.tree_node.specs.Shelves.{IsClashFree}
 use Rattle.node_pack.specs.Headers.{header_bytes}
-use Rattle.node_pack.specs.Packs.{Kept, no_place, pack, pack_len, place_in, record_bytes}
+use Rattle.node_pack.specs.Packs.{AreApart, Kept, no_place, pack, pack_len, place_in, record_bytes}
 use Rattle.node_pack.specs.Reached.{ArePacked, IsReason}
 use Rattle.node_pack.specs.declared.gathered.Gathered.{Gathered}
 use Rattle.node_pack.specs.declared.header.Header.{Header}
@@ -60,12 +60,12 @@ module _ (root : List ℕ) (nodes : List Kept) (place_of : List ℕ → Option P
   pack_front first =
       subst (AppendsFront old new) (pack_is root nodes place_of h same is-root is-size is-manifest) (front_of_first old new (header_bytes h) (flat_map (record_bytes place_of) nodes) (subst (AppendsFront old new) is-text first))
 
-pub layout_fault : (root : List ℕ) (nodes : List Kept) (old new : Option (List ℕ)) (Untouched : Type 0) (fault : WriteFault) → IsLayoutFault nodes fault → Untouched → IsPackFault root nodes old new Untouched fault
-layout_fault root nodes old new Untouched faults.Missing why same = absurd why
-layout_fault root nodes old new Untouched faults.Malformed why same = absurd why
-layout_fault root nodes old new Untouched faults.TooLong why same = (why, same)
-layout_fault root nodes old new Untouched faults.Memory why same = same
-layout_fault root nodes old new Untouched faults.NotWritten why same = absurd why
+pub layout_fault : (root : List ℕ) (nodes : List Kept) (old new : Option (List ℕ)) (Untouched : Type 0) (fault : WriteFault) → AreApart nodes → IsLayoutFault nodes fault → Untouched → IsPackFault root nodes old new Untouched fault
+layout_fault root nodes old new Untouched faults.Missing apart why same = absurd why
+layout_fault root nodes old new Untouched faults.Malformed apart why same = absurd (why apart)
+layout_fault root nodes old new Untouched faults.TooLong apart why same = (why, same)
+layout_fault root nodes old new Untouched faults.Memory apart why same = same
+layout_fault root nodes old new Untouched faults.NotWritten apart why same = absurd why
 
 -- ---- of what stands under a root
 

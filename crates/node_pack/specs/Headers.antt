@@ -8,11 +8,15 @@ use Rattle.node_pack.specs.declared.fault.PackFault.TheVariants.{BytesAfter, Cut
 use Rattle.node_pack.specs.declared.header.Header.{Header}
 use Rattle.node_pack.specs.declared.header.TheConstants.{HEADER_LEN, MAGIC, VERSION}
 
--- A header of 60 bytes: `OSMK`, the version 1 in two bytes and two reserved ones, the root, the length of the file in eight
--- bytes, and the place of the manifest's record.
+-- A header of 60 bytes: `OSMK`, the version and two reserved bytes as one number, the root, the length of the file in eight bytes,
+-- and the place of the manifest's record.
+abbrev pub header_with : ℕ → Header → List ℕ
+header_with version header =
+    to_be_bytes w32 MAGIC ++ (to_be_bytes w32 version ++ (header.root.0 ++ (to_be_bytes w64 header.size ++ place_bytes header.manifest)))
+
+-- that of a pack: the version is 1 in two bytes
 abbrev pub header_bytes : Header → List ℕ
-header_bytes header =
-    to_be_bytes w32 MAGIC ++ (to_be_bytes w32 VERSION ++ (header.root.0 ++ (to_be_bytes w64 header.size ++ place_bytes header.manifest)))
+header_bytes header = header_with VERSION header
 
 -- what the fields after the version say
 abbrev pub fields_at : List ℕ → Header

@@ -1,4 +1,6 @@
+pub mod Additions
 pub mod Faults
+pub mod Further
 pub mod Headers
 pub mod Hints
 pub mod Known

@@ -76,6 +76,14 @@ pub record ArePacked (held : List ℕ → Type 0) (root : List ℕ) (nodes : Lis
 
 -- ---- why no pack is written
 
+-- why a node by itself gets no record: it is neither a node of a tree nor a manifest, or the record would be too long
+abbrev pub IsUnfit : List ℕ → WriteFault → Type 0
+IsUnfit bytes faults.Missing = ⊥
+IsUnfit bytes faults.Malformed = (role : Role) → ¬ HasRole bytes role
+IsUnfit bytes faults.TooLong = (children : List (List ℕ)) × HasChildren bytes children × (2 ^ 32 ≤ record_len (record { bytes = bytes; children = children }))
+IsUnfit bytes faults.Memory = ⊤
+IsUnfit bytes faults.NotWritten = ⊥
+
 -- what stands under the root is too long for a pack: a record, or records of different nodes
 abbrev pub AreTooLong : (List ℕ → Type 0) → List ℕ → Type 0
 AreTooLong held root =

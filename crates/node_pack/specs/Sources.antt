@@ -1,12 +1,13 @@
 -- What a source over a pack knows.
 -- Source: this project.
-use Rattle.std.specs.HashMap.{hash_map_len}
+use Rattle.std.specs.HashMap.{get, hash_map_len}
 use Rattle.std.specs.List.{AllByRecursion, Contains}
 use Rattle.std.specs.Prelude.{◌≡◌, ◌<◌, ◌≤◌, ◌+◌, ◌⊎◌, ℕ, List, ◌++◌, Err, Option, Some, length, take}
 use Rattle.tree_node.specs.Digests.{digest}
+use Rattle.tree_node.specs.Keys.{digest_eq}
 use Rattle.tree_node.specs.declared.digest.Digest.{Digest}
 use Rattle.node_pack.specs.Headers.{header_at}
-use Rattle.node_pack.specs.Known.{AreTrue, IsKnown}
+use Rattle.node_pack.specs.Known.{AreTrue, IsKnown, key_with}
 use Rattle.node_pack.specs.Packs.{Kept}
 use Rattle.node_pack.specs.Placed.{HasNodesAt}
 use Rattle.node_pack.specs.declared.place.Place.{Place}
@@ -35,6 +36,10 @@ module _ {F : Type 0} where
   -- what was read of the file last: the record of a node
   abbrev pub last_record : PackSource F → List ℕ
   last_record source = source.buffer.items
+
+  -- the place that it knows of a node with this digest
+  abbrev pub place_known : PackSource F → List ℕ → Option Place
+  place_known source key = get digest_eq source.places (key_with key)
 
   -- it knows the place of a node with this digest
   abbrev pub Knows : PackSource F → List ℕ → Type 0

@@ -2,5 +2,6 @@
 pub mod Announcing
 pub mod Faults
 pub mod Gathering
+pub mod Laying
 pub mod Reading
 pub mod Stepping

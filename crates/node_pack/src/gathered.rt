@@ -2,9 +2,9 @@
 
 ghost use Rattle.std.specs.Prelude.{◌≡◌, ◌<◌, ◌+◌, ◌*◌, ◌-◌, ◌^◌, [], IfErr, IfOk, OnOk, min};
 ghost use Rattle.tree_node.specs.Fetches.{ReadsAs};
-ghost use Rattle.node_pack.specs.Packs.{digests_of, record_len};
-ghost use Rattle.node_pack.specs.Reached.{Fits, HasRole, IsAsWanted};
-ghost use Rattle.node_pack.specs.internal.Gathering.{IsNewFault, IsRead, IsUnread, kept_of};
+ghost use Rattle.node_pack.specs.Packs.{HasChildren, digests_of, record_len};
+ghost use Rattle.node_pack.specs.Reached.{Fits, HasRole, IsAsWanted, IsUnfit};
+ghost use Rattle.node_pack.specs.internal.Gathering.{IsMeasured, IsNewFault, IsRead, IsUnread, kept_of};
 ghost use Rattle.node_pack.specs.declared.role.Role.{Role};
 ghost use Rattle.node_pack.specs.declared.role.Role.TheVariants as roles;
 
@@ -13,7 +13,7 @@ use crate::role::{Role, Wanted};
 use crate::write_fault::WriteFault;
 use osm_keys::read_manifest;
 use std::alloc::Global;
-use tree_node::{Digest, Fetched, NodeRef};
+use tree_node::{Digest, Fetched, NewNode, NodeRef};
 
 /// A node that a pack will have. Its bytes are the shelf's.
 #[derive(Drop)]
@@ -60,6 +60,33 @@ pub(crate) fn read_wanted<'a>(
     }
     Ok(Gathered {
         key,
+        bytes,
+        children,
+        role,
+        len: len as u32,
+    })
+}
+
+/// A new node with the digests of its children, whatever it is.
+///
+/// Refused with `Malformed` where it is neither a node of a tree nor a manifest, with `TooLong` where its record would have 2^32
+/// bytes or more, and where memory is refused.
+pub(crate) fn read_new(alloc: Global, node: &NewNode) -> Result<Gathered<'_>, WriteFault>
+    ensures bytes { IfOk result (λ gathered. gathered.bytes.now ≡ node.now.bytes.items) }
+    ensures measured { IfOk result IsMeasured }
+    ensures children { IfOk result (λ gathered. HasChildren gathered.bytes.now (digests_of gathered.children.items)) }
+    ensures short { IfOk result (λ gathered. record_len (kept_of gathered) < 2 ^ 32) }
+    ensures refused { IfErr result (IsUnfit node.now.bytes.items) }
+{
+    let bytes = node.bytes.as_slice();
+    let read = NodeRef::read(bytes);
+    let (role, children) = read_role(alloc, Fetched { bytes, read })?;
+    let len = len_of_record(bytes.len(), children.len());
+    if len > u64::from(u32::MAX) {
+        return Err(WriteFault::TooLong);
+    }
+    Ok(Gathered {
+        key: node.digest,
         bytes,
         children,
         role,

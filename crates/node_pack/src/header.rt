@@ -16,11 +16,17 @@ pub const MAGIC: u32 = 0x4f53_4d4b;
 /// The version 1 in two bytes, and two bytes that are zero, as a number of four bytes.
 pub const VERSION: u32 = 0x0001_0000;
 
-/// What a header says.
+/// The version 2, that of a further file, in the same form.
+pub const FURTHER_VERSION: u32 = 0x0002_0000;
+
+/// What the header of a pack or of a further file says.
 #[derive(Clone, Copy, Debug, PartialEq, Eq)]
 pub struct Header {
+    /// The root of the publication.
     pub root: Digest,
+    /// The length of the file in bytes, with the header: at most 2^48.
     pub size: u64,
+    /// Where the record of the manifest stands, by the number of its file and the offset there.
     pub manifest: Place,
 }
 

@@ -8,7 +8,7 @@ ghost use Rattle.node_pack.specs.Hints.{Announcement, IsLedChild};
 ghost use Rattle.node_pack.specs.declared.ahead.TheConstants.{INNER_BYTES, INNER_LIMIT, LEVELS, LEVEL_NODES};
 ghost use Rattle.node_pack.specs.declared.announced.TheConstants.{HINT_BYTES, HINT_MORE};
 ghost use Rattle.node_pack.specs.declared.gather.TheConstants.{DEPTH_LIMIT};
-ghost use Rattle.node_pack.specs.declared.header.TheConstants.{HEADER_LEN, MAGIC, VERSION};
+ghost use Rattle.node_pack.specs.declared.header.TheConstants.{FURTHER_VERSION, HEADER_LEN, MAGIC, VERSION};
 ghost use Rattle.node_pack.specs.declared.learn.TheConstants.{FILE_LIMIT};
 ghost use Rattle.node_pack.specs.declared.record.TheConstants.{RECORD_MORE};
 
@@ -28,6 +28,7 @@ pub fn hint_law()
 pub fn header_law()
     ensures magic { MAGIC ≡ 1330859339 }
     ensures version { VERSION ≡ 65536 }
+    ensures further { FURTHER_VERSION ≡ 2 * 65536 }
     ensures bytes { HEADER_LEN ≡ 60 }
 {}
 

@@ -15,7 +15,7 @@ use std::alloc::{AllocError, Global};
 use std::collections::HashMap;
 use tree_node::Digest;
 
-/// The offsets of other files begin here, 2^48.
+/// How many bytes a file has at most, 2^48. In files that are read as one the offsets of each begin at its number times this.
 pub const FILE_LIMIT: u64 = 281_474_976_710_656;
 
 /// Remembers where the children of a record's node stand, if the node has no more than so many bytes: those that stand below a

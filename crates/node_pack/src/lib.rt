@@ -9,6 +9,7 @@ mod announced;
 mod children;
 mod fault;
 mod file;
+mod further;
 mod gather;
 mod gathered;
 mod header;
@@ -30,7 +31,10 @@ mod write_fault;
 mod writing;
 
 pub use fault::PackFault;
+pub use further::write_further;
+pub use header::Header;
 pub use laws::{header_law, hint_law, limits_law};
+pub use learn::FILE_LIMIT;
 pub use place::Place;
 pub use read_at::{ReadAt, ReadFault};
 pub use source::PackSource;

@@ -4,13 +4,13 @@ ghost use Rattle.std.specs.Io.KnownBytes.{Appends};
 ghost use Rattle.std.specs.List.{AllByRecursion, flat_map};
 ghost use Rattle.std.specs.Prelude.{◌≡◌, ◌++◌, ◌<◌, ◌^◌, OnOk, length};
 ghost use Rattle.byte_io.specs.Written.{AppendsFront};
-ghost use Rattle.node_pack.specs.Headers.{header_bytes};
+ghost use Rattle.node_pack.specs.Headers.{header_with};
 ghost use Rattle.node_pack.specs.Packs.{digests_of, record_bytes, table};
 ghost use Rattle.node_pack.specs.Places.{place_bytes};
 ghost use Rattle.node_pack.specs.internal.Gathering.{HasShortNode, kept_of, kepts, place_by};
 
 use crate::gathered::Gathered;
-use crate::header::{Header, MAGIC, VERSION};
+use crate::header::{Header, MAGIC};
 use crate::layout::place_of;
 use crate::place::Place;
 use byte_io::{NotWritten, write_whole};
@@ -19,12 +19,16 @@ use std::collections::HashMap;
 use std::io::Write;
 use tree_node::Digest;
 
-/// Appends the bytes of a header.
-pub(crate) fn append_header(header: &Header, out: &mut Vec<u8>) -> Result<(), AllocError>
-    ensures { OnOk result (out.new.items ≡ out.old.items ++ header_bytes header.now) }
+/// Appends the bytes of a header with this version, which has two reserved bytes after it.
+pub(crate) fn append_header(
+    version: u32,
+    header: &Header,
+    out: &mut Vec<u8>,
+) -> Result<(), AllocError>
+    ensures { OnOk result (out.new.items ≡ out.old.items ++ header_with version header.now) }
 {
     out.extend_from_slice(&MAGIC.to_be_bytes())?;
-    out.extend_from_slice(&VERSION.to_be_bytes())?;
+    out.extend_from_slice(&version.to_be_bytes())?;
     out.extend_from_slice(&header.root.0)?;
     out.extend_from_slice(&header.size.to_be_bytes())?;
     out.extend_from_slice(&header.manifest.at.to_be_bytes())?;

@@ -46,7 +46,7 @@ pub struct PackSource<F: ReadAt + Drop> {
 }
 
 impl<F: ReadAt + Drop> PackSource<F> {
-    ghost use Rattle.node_pack.specs.Sources.{GivesKept, IsOpenFault, IsOver, Knows, last_record, places_known, root_in};
+    ghost use Rattle.node_pack.specs.Sources.{GivesKept, IsOpenFault, IsOver, Knows, last_record, place_known, places_known, root_in};
     ghost use Rattle.node_pack.specs.internal.Reading.{IsBrought};
 
     /// Reads the header of a pack. What the source needs later comes from `alloc` too.
@@ -123,6 +123,7 @@ impl<F: ReadAt + Drop> PackSource<F> {
 
     /// Where the record of the node with a digest stands, if it knows.
     pub fn place(&self, key: &Digest) -> Option<Place>
+        ensures value { result ≡ place_known self.now key.now.0 }
         ensures known { IsSome result ↔ Knows self.now key.now.0 }
         ensures true_place { (place_of : List ℕ → Option Place) (root : List ℕ) (nodes : List Kept)
             → IsOver F.reads place_of self.now root nodes

@@ -9,17 +9,18 @@ use std::alloc::{AllocError, AllocFailed};
 use thiserror::Error;
 use tree_node::ShelfFault;
 
-/// Why a pack isn't written.
+/// Why a pack or a further file isn't written.
 #[derive(Clone, Copy, Debug, PartialEq, Eq, Error)]
 pub enum WriteFault {
-    /// The shelf holds no node with a digest that is referred to.
+    /// The shelf holds no node with a digest that is referred to; for a further file, a child has no place, there or earlier.
     #[error("a node is missing")]
     Missing,
     /// A node is not what refers to it says: the root is no manifest's, a top is no node of its tree, or a child is no node of
-    /// its parent's tree one level below.
+    /// its parent's tree one level below. For a further file, a node is neither a node of a tree nor a manifest, has an earlier
+    /// place or the digest of another one, or none has the root.
     #[error("a malformed node")]
     Malformed,
-    /// A record would have 2^32 bytes or more, or the pack more than 2^48.
+    /// A record would have 2^32 bytes or more, or the file more than 2^48.
     #[error("the pack is too long")]
     TooLong,
     /// Memory was refused.

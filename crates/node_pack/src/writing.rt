@@ -11,7 +11,7 @@ ghost use Rattle.node_pack.specs.internal.Gathering.{HasShortNode, IsMeasured, I
 
 use crate::gather::gather;
 use crate::gathered::Gathered;
-use crate::header::Header;
+use crate::header::{Header, VERSION};
 use crate::layout::{lay_out, place_of};
 use crate::place::Place;
 use crate::records::{append_header, write_records};
@@ -69,14 +69,14 @@ fn write_nodes<W: Write>(
         (writer.new ≡ writer.old)) }
 {
     let mut places = HashMap::new(alloc);
-    let size = lay_out(nodes, &mut places)?;
+    let size = lay_out(0, nodes, &mut places)?;
     let header = Header {
         root: *root,
         size,
         manifest: place_of(&places, root),
     };
     let mut front = Vec::new(alloc);
-    append_header(&header, &mut front)?;
+    append_header(VERSION, &header, &mut front)?;
     write_whole(writer, front.as_slice())?;
     write_records(nodes, &places, writer)?;
     Ok(size)

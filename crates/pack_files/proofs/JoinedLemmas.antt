@@ -1,13 +1,29 @@
 -- Where the bytes of a file are in several files as one.
-use Rattle.std.proofs.Common.{◌≡◌, ◌≤◌, ◌<◌, ◌+◌, ◌-◌, ◌*◌, ◌^◌, ℕ, zero, suc, List, [], ◌∷◌, ◌++◌, length, get_or, slice_set, take, drop, replicate, refl, sym, ap, subst, ◌∙◌, arith, append_assoc, length-append, length-drop}
+use Rattle.std.proofs.Common.{◌≡◌, ◌≤◌, ◌<◌, ◌+◌, ◌-◌, ◌*◌, ◌^◌, ℕ, zero, suc, List, [], ◌∷◌, ◌++◌, length, get_or, slice_set, take, drop, replicate, refl, sym, ap, ◌∙◌, arith, append_assoc, length-append, length-drop}
 use Rattle.std.proofs.Math.Seq.{drop-append-add}
-use Rattle.std.proofs.lemmas.List.{drop-append-le, length-replicate, length-set, take-append-le}
+use Rattle.std.proofs.lemmas.List.{append-nil, drop-append-le, length-replicate, length-set, take-append-le}
 use Rattle.std.specs.Prelude.{OnOk, Result, Ok, Err}
-use Rattle.pack_files.specs.Joined.{AllRead, AreRead, filled, joined}
+use Rattle.node_pack.specs.Places.{at_place}
+use Rattle.node_pack.specs.declared.place.Place.{Place}
+use Rattle.pack_files.specs.Joined.{AllRead, AreRead, AreShort, filled, joined}
 
 -- a file with what follows it up to the next one
 filled_long : (file : List ℕ) → length file ≤ 2 ^ 48 → length (filled file) ≡ 2 ^ 48
 filled_long file short = omega (arith, short, length-append file (replicate (2 ^ 48 - length file) 0), length-replicate {A = ℕ} (2 ^ 48 - length file) 0)
+
+pub short_long : (contents : List (List ℕ)) → AreShort contents → length (joined contents) ≡ length contents * 2 ^ 48
+short_long [] all = refl
+short_long (bytes ∷ others) all = omega (arith, length-append (filled bytes) (joined others), filled_long bytes all.0, short_long others all.1)
+
+pub joined_more : (contents : List (List ℕ)) (file : List ℕ) → joined (contents ++ file ∷ []) ≡ joined contents ++ filled file
+joined_more [] file = append-nil (filled file)
+joined_more (bytes ∷ others) file = ap (λ (l : List ℕ). filled bytes ++ l) (joined_more others file) ∙ sym (append_assoc (filled bytes) (joined others) (filled file))
+
+-- what stands at a place before the end of the first bytes
+pub at_front : (place : Place) (front rest : List ℕ) → place.at + place.len ≤ length front → at_place place (front ++ rest) ≡ at_place place front
+at_front place front rest within =
+    ap (take place.len) (drop-append-le place.at front rest (omega (arith, within)))
+    ∙ take-append-le place.len (drop place.at front) rest (omega (arith, within, length-drop place.at front))
 
 -- what follows of a result that is Ok
 pub on_ok : {A E : Type 0} {P Q : Type 0} (r : Result A E) → OnOk r P → (P → Q) → OnOk r Q

@@ -1,1 +1,4 @@
+mod FirstLemmas
+mod FurtherLemmas
 mod JoinedLemmas
+mod OverLemmas

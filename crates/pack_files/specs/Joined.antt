@@ -1,6 +1,7 @@
 -- Several files as one.
 -- Source: this project's packs, docs/FORMATS.md.
-use Rattle.std.specs.Prelude.{◌≡◌, ◌≤◌, ◌-◌, ◌^◌, ℕ, List, [], ◌∷◌, ◌++◌, ⊤, length, replicate}
+use Rattle.std.specs.List.{AllByRecursion}
+use Rattle.std.specs.Prelude.{◌≤◌, ◌-◌, ◌^◌, ℕ, List, [], ◌∷◌, ◌++◌, ⊤, length, replicate}
 
 -- a file, and zeros where nothing is up to the beginning of the next one
 abbrev pub filled : List ℕ → List ℕ
@@ -10,6 +11,10 @@ filled file = file ++ replicate (2 ^ 48 - length file) 0
 abbrev pub joined : List (List ℕ) → List ℕ
 joined [] = []
 joined (file ∷ files) = filled file ++ joined files
+
+-- each of them has 2^48 bytes at most
+abbrev pub AreShort : List (List ℕ) → Type 0
+AreShort contents = AllByRecursion (λ (file : List ℕ). length file ≤ 2 ^ 48) contents
 
 -- each file reads its bytes, of which there are 2^48 at most
 abbrev pub AllRead : {F : Type 0} → (F → List ℕ → Type 0) → List F → List (List ℕ) → Type 0

@@ -2,11 +2,8 @@
 
 ghost use Rattle.std.specs.Prelude.{◌≡◌, ◌≤◌, ◌+◌, ◌++◌, ℕ, List, OnOk, drop, length, take};
 
-use node_pack::{Place, ReadAt, ReadFault};
+use node_pack::{FILE_LIMIT, Place, ReadAt, ReadFault};
 use std::alloc::{AllocError, Global};
-
-/// The offset of the second file, 2^48: what comes before it is in the first one, or in none.
-const FILE_LEN: u64 = 281_474_976_710_656;
 
 /// Several files as one, in which each begins at the offset of its number times 2^48. Between the end of a file and the beginning
 /// of the next one there is nothing to read. Offsets fit 64 bits for 65,535 files; those after them can't be read.
@@ -51,13 +48,13 @@ impl<F: ReadAt + Drop> ReadAt for JoinedFiles<F> {
 
     /// The offset that one more file would have.
     fn size(&mut self) -> Result<u64, ReadFault> {
-        Ok((self.files.len() as u64).saturating_mul(FILE_LEN))
+        Ok((self.files.len() as u64).saturating_mul(FILE_LIMIT))
     }
 
     /// It fails where the file at the offset ends before.
     fn read_at(&mut self, offset: u64, len: usize, into: &mut Vec<u8>) -> Result<(), ReadFault> {
-        match self.files.get_mut((offset / FILE_LEN) as usize) {
-            Some(file) => read_within(file, offset % FILE_LEN, len, into),
+        match self.files.get_mut((offset / FILE_LIMIT) as usize) {
+            Some(file) => read_within(file, offset % FILE_LIMIT, len, into),
             None => Err(ReadFault::Device),
         }
     }
@@ -77,7 +74,7 @@ impl<F: ReadAt + Drop> ReadAt for JoinedFiles<F> {
             let Some(first) = rest.first() else {
                 return;
             };
-            let number = first.at / FILE_LEN;
+            let number = first.at / FILE_LIMIT;
             let (own, others) = rest.split_at(count_in(rest, number));
             self.tell(number, own);
             rest = others;
@@ -109,7 +106,7 @@ fn own_places(alloc: Global, places: &[Place]) -> Result<Vec<Place>, AllocError>
     let mut own = Vec::new(alloc);
     for place in places {
         own.push(Place {
-            at: place.at % FILE_LEN,
+            at: place.at % FILE_LIMIT,
             len: place.len,
         })?;
     }
@@ -122,7 +119,7 @@ fn count_in(places: &[Place], number: u64) -> usize
 {
     let mut count = 0usize;
     for place in places {
-        if place.at / FILE_LEN != number {
+        if place.at / FILE_LIMIT != number {
             return count;
         }
         count += 1;

@@ -5,5 +5,7 @@
 #![tactic(auto)]
 
 mod joined;
+mod laws;
 
 pub use joined::JoinedFiles;
+pub use laws::{fewer_law, first_law, further_law};

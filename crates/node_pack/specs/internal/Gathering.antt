@@ -163,10 +163,10 @@ IsNewFault wanted bytes faults.TooLong = IsAsWanted wanted bytes × IsLong bytes
 IsNewFault wanted bytes faults.Memory = ⊤
 IsNewFault wanted bytes faults.NotWritten = ⊥
 
--- why nodes aren't laid out: their pack would be too long, or memory
+-- why nodes aren't laid out: two have one digest, their file would be too long, or memory
 abbrev pub IsLayoutFault : List Kept → WriteFault → Type 0
 IsLayoutFault nodes faults.Missing = ⊥
-IsLayoutFault nodes faults.Malformed = ⊥
+IsLayoutFault nodes faults.Malformed = ¬ AreApart nodes
 IsLayoutFault nodes faults.TooLong = 2 ^ 48 < pack_len nodes
 IsLayoutFault nodes faults.Memory = ⊤
 IsLayoutFault nodes faults.NotWritten = ⊥

@@ -1,6 +1,7 @@
 //! A small pack, as it is, with each bit turned, cut, and on devices that fail.
 
 mod ahead;
+mod further;
 mod writing;
 
 use super::small_pack::{LEN, NODES, PACK, ROOT};

@@ -1,4 +1,4 @@
-use Rattle.std.proofs.Common.{◌<◌, ◌^◌, [], Some, subst, sym, ap, arith, ◌∙◌}
+use Rattle.std.proofs.Common.{◌<◌, [], Some, subst, sym, ap, arith, ◌∙◌}
 use Rattle.node_pack.specs.Known.{IsBetween}
 use Rattle.node_pack.specs.declared.place.Place.{Place}
 use Rattle.node_pack.proofs.RecordLemmas.{next_of, one_more, none_learned}

@@ -10,7 +10,7 @@ pub returns-in_err-size-clause-refused : goal.returns-in_err-size-clause-refused
 returns-in_err-size-clause-refused g c =
     let contents = g.W.Write.contents c.args.writer.now in
     told_is c.from_residual.result c.in_err-size.field-0.0 (IsPackFault c.args.root.now.0 (kepts c.args.nodes.now) contents contents _) c.from_residual.ensures.1
-    (layout_fault c.args.root.now.0 (kepts c.args.nodes.now) contents contents _ c.in_err-size.field-0.0 c.in_err-size.ensures.refused refl)
+    (layout_fault c.args.root.now.0 (kepts c.args.nodes.now) contents contents _ c.in_err-size.field-0.0 c.requires.apart c.in_err-size.ensures.refused refl)
 
 pub returns-in_err-write_whole-clause-refused : goal.returns-in_err-write_whole-clause-refused
 returns-in_err-write_whole-clause-refused g c =

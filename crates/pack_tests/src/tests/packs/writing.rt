@@ -68,11 +68,11 @@ fn writes_a_pack_after_refused_memory(rt: HostRuntime) -> Result<(), Fail> {
 
 /// Takes seven bytes a call, and fails or takes nothing at one call.
 #[derive(Drop)]
-struct Narrow {
-    taken: Vec<u8>,
-    calls: u32,
-    stops_at: u32,
-    fails: bool,
+pub(super) struct Narrow {
+    pub(super) taken: Vec<u8>,
+    pub(super) calls: u32,
+    pub(super) stops_at: u32,
+    pub(super) fails: bool,
 }
 
 impl Write for Narrow {

@@ -3,7 +3,8 @@ use Rattle.node_pack.specs.Known.{IsKnown}
 use Rattle.node_pack.specs.Packs.{pack, place_in}
 use Rattle.node_pack.specs.Sources.{IsOpenFault}
 use Rattle.node_pack.proofs.HeaderLemmas.{front_read, header_read}
-use Rattle.node_pack.proofs.PackLemmas.{fault_is, has_header, packed}
+use Rattle.node_pack.proofs.PackLemmas.{fault_is, has_header}
+use Rattle.node_pack.proofs.shared.PackPlaces.{packed}
 use Rattle.node_pack.proofs.source.PackSource.open.Goals as goal
 
 pub returns-in_err-header-clause-refused : goal.returns-in_err-header-clause-refused

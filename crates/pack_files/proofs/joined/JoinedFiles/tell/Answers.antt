@@ -1,4 +1,4 @@
-use Rattle.std.proofs.Common.{List, ℕ, [], get_or, sym, subst}
+use Rattle.std.proofs.Common.{[], get_or, sym, subst}
 use Rattle.pack_files.proofs.JoinedLemmas.{one_reads, set_read}
 use Rattle.pack_files.specs.Files.{files_in}
 use Rattle.pack_files.proofs.joined.JoinedFiles.tell.Goals as goal

@@ -1,4 +1,4 @@
-use Rattle.std.proofs.Common.{◌≡◌, ◌<◌, ◌+◌, ◌++◌, ◌*◌, ◌/◌, ◌%◌, ◌^◌, [], ℕ, List, get_or, drop, take, ap, sym, subst, refl, ◌∙◌, arith}
+use Rattle.std.proofs.Common.{◌≡◌, ◌+◌, ◌++◌, ◌*◌, ◌/◌, ◌%◌, ◌^◌, [], ℕ, List, get_or, drop, take, ap, sym, subst, ◌∙◌, arith}
 use Rattle.pack_files.proofs.JoinedLemmas.{at_file, on_ok, one_reads, set_read}
 use Rattle.pack_files.specs.Files.{files_in}
 use Rattle.pack_files.specs.Joined.{joined}

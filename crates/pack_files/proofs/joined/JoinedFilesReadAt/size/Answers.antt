@@ -1,4 +1,4 @@
-use Rattle.std.proofs.Common.{◌≡◌, List, ℕ, ap, sym, ◌∙◌, length, arith}
+use Rattle.std.proofs.Common.{ap, length, arith}
 use Rattle.pack_files.proofs.JoinedLemmas.{joined_long}
 use Rattle.pack_files.specs.Files.{files_in}
 use Rattle.pack_files.proofs.joined.JoinedFilesReadAt.size.Goals as goal
