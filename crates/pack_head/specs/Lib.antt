@@ -1,0 +1,4 @@
+pub mod Heads
+pub mod Lines
+pub mod Names
+pub mod internal

@@ -1,0 +1,4 @@
+-- Words that only private clauses cite: nothing that a reader of the promises must believe.
+pub mod Extending
+pub mod Fronts
+pub mod Left
