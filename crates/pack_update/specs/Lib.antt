@@ -1,4 +1,0 @@
-pub mod Adding
-pub mod Faults
-pub mod Files
-pub mod internal
