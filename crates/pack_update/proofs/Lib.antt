@@ -1,0 +1,9 @@
+mod UnderLemmas
+mod ToldLemmas
+mod TreeChildren
+mod AddLemmas
+mod NodeLists
+mod Apart
+mod PlaceLemmas
+mod WholeLemmas
+mod FirstLemmas
