@@ -49,13 +49,14 @@ MODULES = {
     "http_messages": ("answer_tests", "connections"),
     "osm_gate": ("answer_tests", "connections"),
     "osm_changes": ("osm_commands_tests", "announcing"),
+    "osm_pack_changes": ("osm_packs_tests", "adding"),
     "mirror_answer": ("osm_fetch_tests", "replies"),
 }
 
 # Crates whose allocations are refused in the program: serve_test.py does it for the sockets, since a test is one thread,
 # which can't wait for itself at the other end of a socket, and relay_test.py for those of the relay; changes_test.py does it
-# for change files that are published.
-TESTED_IN_THE_PROGRAM = {"osm_sockets", "osm_serving", "relay_sockets"}
+# for change files that are published, and pack_heads_test.py for heads.
+TESTED_IN_THE_PROGRAM = {"osm_sockets", "osm_serving", "relay_sockets", "tcp_places"}
 
 
 def crates():

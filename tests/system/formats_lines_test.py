@@ -22,8 +22,9 @@ from runs import PROGRAM, SECONDS, Outcome, Tally, run
 from serve_test import refused_in_request, server, told
 from trees import digest, reference
 
-# Two nodes that share a digest, a tree of more than 2^29 entries, a file of 2^32 reads.
-UNREACHED = {"I1", "I4", "O15"}
+# Two nodes that share a digest, a tree of more than 2^29 entries, a file of 2^32 reads; and files that list a node which changes make
+# before it is there.
+UNREACHED = {"I1", "I4", "O15", "a malformed node"}
 
 # How the page shortens a root, and the ports and the mirror that it names (the mirror's name has to lead somewhere).
 SHORTENED = {"e669..": "[0-9a-f]{64}", "8080, over": r"\d+, over", "8090, relays": r"\d+, relays", "mirror.example": r"127\.0\.0\.1"}
@@ -62,12 +63,12 @@ IN_PLACE = {
 # ---- Nodes that no publisher makes
 
 
-def by_hand(objects=None, tags=None):
-    """A manifest of edition 1 over these two trees, each a list of its levels, leaves first, and two without entries; and its
-    nodes."""
+def by_hand(objects=None, tags=None, front=b"OSMM\1"):
+    """A manifest, of edition 1 if it doesn't begin otherwise, over these two trees, each a list of its levels, leaves first, and two
+    without entries; and its nodes."""
     empty = [[[trees.leaf(tree, [])]] for tree in (1, 2, 3, 4)]
     levels = [objects or empty[0], tags or empty[1], empty[2], empty[3]]
-    manifest = b"OSMM\1" + b"".join(digest(it[-1][0]) for it in levels)
+    manifest = front + b"".join(digest(it[-1][0]) for it in levels)
     return list(dict.fromkeys(packs.in_order(manifest, levels)))
 
 
@@ -177,6 +178,31 @@ def lines_of_packs(room):
     yield "the device failed", "query", run([PROGRAM, "query", room.root, room.folder / "no-file", QUERY])
     for code, (nodes, query) in DISHONEST.items():
         yield code, "query", room.queried(pack=packs.pack_of(nodes), root=digest(nodes[0]).hex(), query=query)
+
+
+def lines_of_heads(room):
+    """What `pack --add` refuses beside changes, and heads that are none."""
+    pack, front = room.pack.read_bytes(), f"osm_mirror head 1\nroot {room.root}\nsequence 0\nmanifest 60 193\n"
+    changes = room.file("tags.opl", b"n1 Ta=b x13.4 y52.5\n")
+    add = lambda name, content: run([PROGRAM, "pack", "--add", changes, room.file(name, content)])
+    yield "line 5 of the head is wrong", "query", room.queried(pack=front.encode())
+    yield "a name that a head can't have", "pack", add("a set.pack", pack)
+    yield "too many files", "pack", add("many.head", (front + "file 1 a\n" * 65535).encode())
+    yield "no manifest", "pack", add("leaf.pack", packs.pack_of([trees.leaf(1, [])]))
+    yield "no tree", "pack", add("no-tree.pack", packs.pack_of(by_hand(objects=[[trees.leaf(2, [])]], front=b"OSMM\2" + bytes(8))))
+    yield "a node is missing", "pack", without_a_place(room, changes)
+
+
+def without_a_place(room, changes):
+    """What `pack --add` says of a pack in which the place of the last leaf of the objects' tree isn't told."""
+    lines = [f"n{it} v1 dV c1 t i0 u T x1.{it} y1" for it in range(1, 400)]
+    manifest, levels = trees.manifest_of(lines, 2)
+    objects = levels[1]
+    nodes = packs.in_order(manifest, list(levels.values()))
+    pack, places = bytearray(packs.pack_of(nodes)), packs.places_of(nodes)
+    top = places[digest(objects[1][0])]
+    pack[top.at + top.length - 12 : top.at + top.length - 4] = b"\xff" * 8
+    return run([PROGRAM, "pack", "--add", changes, room.file("hole.pack", bytes(pack))])
 
 
 @contextmanager
@@ -430,7 +456,7 @@ def main():
     with tempfile.TemporaryDirectory() as folder:
         room = Room(Path(folder))
         tally.check("root of the four objects", room.root == trees.root_of(FOUR, 2), room.root)
-        had = [*lines_of_words(room), *lines_of_texts(room), *lines_of_packs(room), *lines_of_mirrors(room)]
+        had = [*lines_of_words(room), *lines_of_texts(room), *lines_of_packs(room), *lines_of_heads(room), *lines_of_mirrors(room)]
         going = list(lines_of_servers(room))
         check_lines(tally, page, had, going)
         check_listeners(tally, page, room)

@@ -70,10 +70,10 @@ def pack_of(nodes):
 
 
 def further_of(file, nodes, old):
-    """The further file with a number that has these nodes, of which the first is the manifest, beside files in which nodes have
-    their old places."""
+    """The further file with a number that has these nodes, of which one is the manifest, beside files in which nodes have their old
+    places."""
     places = {**old, **places_of(nodes, file)}
-    root, records = digest(nodes[0]), records_of(nodes, places)
+    root, records = digest(next(it for it in nodes if it[:4] == b"OSMM")), records_of(nodes, places)
     header = b"OSMK" + number(2, 2) + bytes(2) + root + number(HEADER + len(records), 8) + place_bytes(places[root])
     return header + records
 

@@ -77,13 +77,15 @@ pub enum Job {
         /// The most work that the query may take, if there is a limit.
         max_work: Option<u64>,
     },
-    /// `pack FILE PACK [--memory BYTES] [--temp DIR] [--edition 1|2] [--sequence N]`: write the pack of a set, and tell the
-    /// root.
+    /// `pack FILE PACK [--add] [--memory BYTES] [--temp DIR] [--edition 1|2] [--sequence N]`: write the pack of a set, or add
+    /// changes to one, and tell the root.
     Pack {
-        /// The OPL file with the set's objects.
+        /// The OPL file with the set's objects, or the file with the changes.
         file: String,
-        /// The file that the pack is written to.
+        /// The file that the pack is written to; or the pack to which changes are added, or its head.
         pack_file: String,
+        /// Whether changes are added. Memory, folder and edition mean nothing then.
+        add: bool,
         /// How many bytes of the set may be held in memory at a time.
         memory: u64,
         /// The folder for temporary files, if one is named.
@@ -96,7 +98,7 @@ pub enum Job {
     Query {
         /// The root, which the word ROOT tells in 64 hexadecimal digits of either case.
         root: Digest,
-        /// The file of the pack.
+        /// Where the pack is, or a head: a file, or an address on a server.
         place: String,
         /// The bytes of the word QUERY as they stand.
         query: String,

@@ -1,6 +1,6 @@
 -- What an answer from a pack is to the command, and why there is none.
-use Rattle.std.proofs.Common.{◌≡◌, ◌≢◌, ◌⊎◌, ◌∙◌, ℕ, List, [], ◌++◌, Bool, true, false, Option, Ok, Err, length, inl, inr, refl, sym, ap, subst}
-use Rattle.std.specs.Prelude.{⊤, not, take}
+use Rattle.std.proofs.Common.{◌≡◌, ◌≢◌, ◌⊎◌, ◌∙◌, ℕ, List, [], ◌++◌, Bool, true, false, Option, Result, Ok, Err, length, inl, inr, refl, sym, ap, subst}
+use Rattle.std.specs.Prelude.{⊤, IfOk, not, take}
 use Rattle.std.specs.Str.{bytes_eq}
 use Rattle.tree_node.proofs.shared.MapLemmas.{eq_is}
 use Rattle.tree_node.specs.Outcomes.{Clash}
@@ -25,9 +25,13 @@ use Rattle.outside_answer.specs.Answers as answering
 use Rattle.outside_answer.specs.declared.fault.AnswerFault.{AnswerFault}
 use Rattle.outside_answer.specs.declared.fault.AnswerFault.TheVariants as answers
 use Rattle.node_pack.specs.Headers.{header_at}
+use Rattle.node_pack.specs.declared.fault.PackFault.{PackFault}
+use Rattle.node_pack.specs.declared.fault.PackFault.TheVariants as packs
 use Rattle.node_pack.specs.declared.header.Header.{Header}
-use Rattle.osm_packs.specs.Querying.{Explains, HasRoot, IsRight, KeepsBudget}
-use Rattle.osm_packs.specs.internal.Faults.{fault_of_answer}
+use Rattle.osm_packs.specs.Querying.{Explains, ExplainsInFiles, HasRoot, IsRight, KeepsBudget}
+use Rattle.osm_packs.specs.internal.Faults.{IsOfNodes, fault_of_answer, fault_of_pack}
+use Rattle.osm_packs.specs.declared.not_answered.NotAnswered.{NotAnswered}
+use Rattle.osm_packs.specs.declared.not_answered.NotAnswered.TheVariants.{Device, Evaluation, Memory, Node, OtherRoot, Pack, Query, Work}
 
 -- what an empty text has gained is right
 pub right_text : (p : Publication) (form : Form) (query : List ℕ) (statements : Statements) (old new : List ℕ) → Reads query statements → old ≡ []
@@ -54,6 +58,14 @@ has_root Gives root found opened same = λ file gives.
 
 -- ---- faults
 
+-- what is so whatever the result
+pub ok_any : {A : Type 0} (P : Type 0) → P → (result : Result A NotAnswered) → IfOk result (λ _. P)
+ok_any P so (Ok value) = so
+ok_any P so (Err fault) = tt
+
+pub not_device : (fault : NotAnswered) → IsOfNodes fault → fault ≢ Device
+not_device fault of = λ e. subst IsOfNodes e of
+
 abbrev IsOther : EvalFault → Type 0
 IsOther (evaluations.Walk fault) = ⊤
 IsOther evaluations.Form = ⊤
@@ -75,18 +87,44 @@ IsOtherReason reasons.TooMany = ⊤
 not_memory : (reason : Refused) → IsOtherReason reason → reason ≢ reasons.Memory
 not_memory reason other = λ e. subst IsOtherReason e other
 
-pub answer_explained : (Gives : List ℕ → Type 0) (query root : List ℕ) (fault : AnswerFault) → IsReadable query → HasRoot Gives root → Explains Gives query root (fault_of_answer fault)
-answer_explained Gives query root (answers.Source reasons.Absent) reads has = (reads, has, not_memory reasons.Absent tt)
-answer_explained Gives query root (answers.Source reasons.Other) reads has = (reads, has, not_memory reasons.Other tt)
-answer_explained Gives query root (answers.Source reasons.Device) reads has = (reads, has, not_memory reasons.Device tt)
-answer_explained Gives query root (answers.Source reasons.Memory) reads has = tt
-answer_explained Gives query root (answers.Source reasons.TooMany) reads has = (reads, has, not_memory reasons.TooMany tt)
-answer_explained Gives query root (answers.Evaluation (evaluations.Walk fault)) reads has = (reads, has, (neither (evaluations.Walk fault) tt).0, (neither (evaluations.Walk fault) tt).1)
-answer_explained Gives query root (answers.Evaluation evaluations.Form) reads has = (reads, has, (neither evaluations.Form tt).0, (neither evaluations.Form tt).1)
-answer_explained Gives query root (answers.Evaluation evaluations.Absent) reads has = (reads, has, (neither evaluations.Absent tt).0, (neither evaluations.Absent tt).1)
-answer_explained Gives query root (answers.Evaluation (evaluations.Manifest fault)) reads has = (reads, has, (neither (evaluations.Manifest fault) tt).0, (neither (evaluations.Manifest fault) tt).1)
-answer_explained Gives query root (answers.Evaluation evaluations.Memory) reads has = tt
-answer_explained Gives query root (answers.Evaluation evaluations.Work) reads has = (reads, has)
+-- what an answer is refused for comes of the nodes
+pub of_nodes : (fault : AnswerFault) → IsOfNodes (fault_of_answer fault)
+of_nodes (answers.Source reasons.Absent) = not_memory reasons.Absent tt
+of_nodes (answers.Source reasons.Other) = not_memory reasons.Other tt
+of_nodes (answers.Source reasons.Device) = not_memory reasons.Device tt
+of_nodes (answers.Source reasons.Memory) = tt
+of_nodes (answers.Source reasons.TooMany) = not_memory reasons.TooMany tt
+of_nodes (answers.Evaluation (evaluations.Walk fault)) = neither (evaluations.Walk fault) tt
+of_nodes (answers.Evaluation evaluations.Form) = neither evaluations.Form tt
+of_nodes (answers.Evaluation evaluations.Absent) = neither evaluations.Absent tt
+of_nodes (answers.Evaluation (evaluations.Manifest fault)) = neither (evaluations.Manifest fault) tt
+of_nodes (answers.Evaluation evaluations.Memory) = tt
+of_nodes (answers.Evaluation evaluations.Work) = tt
+
+pub explained : (Gives : List ℕ → Type 0) (query root : List ℕ) (fault : NotAnswered) → IsReadable query → HasRoot Gives root → IsOfNodes fault → Explains Gives query root fault
+explained Gives query root (Query fault) reads has of = absurd of
+explained Gives query root (Pack fault) reads has of = absurd of
+explained Gives query root OtherRoot reads has of = absurd of
+explained Gives query root (Node reason) reads has of = (reads, has, of)
+explained Gives query root (Evaluation fault) reads has of = (reads, has, of.0, of.1)
+explained Gives query root Work reads has of = (reads, has)
+explained Gives query root Memory reads has of = tt
+explained Gives query root Device reads has of = absurd of
+
+pub explained_in_files : (query root stated : List ℕ) (fault : NotAnswered) → IsReadable query → stated ≡ root → IsOfNodes fault → ExplainsInFiles query root stated fault
+explained_in_files query root stated (Query fault) reads same of = absurd of
+explained_in_files query root stated (Pack fault) reads same of = absurd of
+explained_in_files query root stated OtherRoot reads same of = absurd of
+explained_in_files query root stated (Node reason) reads same of = (reads, same, of)
+explained_in_files query root stated (Evaluation fault) reads same of = (reads, same, of.0, of.1)
+explained_in_files query root stated Work reads same of = (reads, same)
+explained_in_files query root stated Memory reads same of = tt
+explained_in_files query root stated Device reads same of = absurd of
+
+-- files that can't be opened: the device fails, or memory is refused
+pub open_in_files : (query root stated : List ℕ) (fault : PackFault) → IsReadable query → stated ≡ root → (fault ≡ packs.Device) ⊎ (fault ≡ packs.Memory) → ExplainsInFiles query root stated (fault_of_pack fault)
+open_in_files query root stated fault reads same (inl e) = subst (λ (f : PackFault). ExplainsInFiles query root stated (fault_of_pack f)) (sym e) (reads, same, refl)
+open_in_files query root stated fault reads same (inr e) = subst (λ (f : PackFault). ExplainsInFiles query root stated (fault_of_pack f)) (sym e) tt
 
 pub budget_kept : (A : Type 0) (p : Publication) (form : Form) (query : List ℕ) (statements : Statements) (most : Option ℕ) (fault : AnswerFault) → Reads query statements
     → answering.KeepsBudget (WorkOfQuery (form_text form) p statements) most (Err fault) → KeepsBudget {A = A} (IsWorkOf (form_text form) p query) most (Err (fault_of_answer fault))

@@ -92,6 +92,17 @@ Explains Reads query root Work = IsReadable query × HasRoot Reads root
 Explains Reads query root Memory = ⊤
 Explains Reads query root Device = IsReadable query × HasRoot Reads root
 
+-- The same where files are read as one, of which this root is stated: no header is looked at.
+abbrev pub ExplainsInFiles : (query root stated : List ℕ) → NotAnswered → Type 0
+ExplainsInFiles query root stated (Query fault) = HasFault query fault
+ExplainsInFiles query root stated (Pack fault) = IsReadable query × (stated ≡ root) × (fault ≡ packs.Device)
+ExplainsInFiles query root stated OtherRoot = IsReadable query × (stated ≢ root)
+ExplainsInFiles query root stated (Node reason) = IsReadable query × (stated ≡ root) × (reason ≢ reasons.Memory)
+ExplainsInFiles query root stated (Evaluation fault) = IsReadable query × (stated ≡ root) × (fault ≢ evaluations.Memory) × (fault ≢ evaluations.Work)
+ExplainsInFiles query root stated Work = IsReadable query × (stated ≡ root)
+ExplainsInFiles query root stated Memory = ⊤
+ExplainsInFiles query root stated Device = IsReadable query × (stated ≡ root)
+
 -- ---- how the program ends
 
 abbrev pub status_of_pack : PackFault → Status

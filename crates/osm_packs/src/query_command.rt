@@ -12,16 +12,14 @@ ghost use Rattle.ql_eval.specs.Work.{IsNodeOf};
 ghost use Rattle.osm_prove.specs.Budgets.{IsWorkOf};
 ghost use Rattle.osm_check.specs.Verdicts.{IsReadable};
 ghost use Rattle.osm_packs.specs.Querying.{Explains, HasAnswered, HasBegun, HasRoot, IsRight, KeepsBudget};
-ghost use Rattle.osm_packs.specs.internal.Faults.{fault_of_answer, fault_of_evaluation, fault_of_pack, fault_of_query, fault_of_reason};
+ghost use Rattle.osm_packs.specs.internal.Faults.{fault_of_pack, fault_of_query};
 
+use crate::answer_text::answer_text;
 use crate::not_answered::NotAnswered;
-use bumpalo::Bump;
 use node_pack::{PackFault, PackSource, ReadAt};
 use osm_commands::{FlushingWriter, write_document};
 use osm_forms::Form;
-use outside_answer::{AnswerFault, Limits, answer_from};
-use outside_shelf::Refused;
-use ql_eval::EvalFault;
+use outside_answer::Limits;
 use ql_syntax::{QlCause, QlFault, parse};
 use std::alloc::Global;
 use tree_node::Digest;
@@ -111,16 +109,11 @@ fn find_text<F: ReadAt + Drop>(
     if source.root() != *root {
         return Err(NotAnswered::OtherRoot);
     }
-    let arena = Bump::new(alloc);
-    let mut text = Vec::new(alloc);
-    match answer_from(alloc, &arena, source, &query, root, form, limits, &mut text) {
-        Ok(_) => Ok(text),
-        Err(fault) => Err(fault_of_answer(fault)),
-    }
+    answer_text(alloc, form, root, &query, limits, source)
 }
 
 /// What a query that doesn't read is to the command.
-fn fault_of_query(fault: QlFault) -> NotAnswered
+pub(crate) fn fault_of_query(fault: QlFault) -> NotAnswered
     ensures { result ≡ fault_of_query fault }
 {
     match fault.cause {
@@ -130,42 +123,11 @@ fn fault_of_query(fault: QlFault) -> NotAnswered
 }
 
 /// What a file that isn't opened is to the command.
-fn fault_of_pack(fault: PackFault) -> NotAnswered
+pub(crate) fn fault_of_pack(fault: PackFault) -> NotAnswered
     ensures { result ≡ fault_of_pack fault }
 {
     match fault {
         PackFault::Memory => NotAnswered::Memory,
         _ => NotAnswered::Pack(fault),
-    }
-}
-
-/// What it is to the command that there is no answer.
-fn fault_of_answer(fault: AnswerFault) -> NotAnswered
-    ensures { result ≡ fault_of_answer fault }
-{
-    match fault {
-        AnswerFault::Source(reason) => fault_of_reason(reason),
-        AnswerFault::Evaluation(fault) => fault_of_evaluation(fault),
-    }
-}
-
-/// What a node that isn't given is to the command.
-fn fault_of_reason(reason: Refused) -> NotAnswered
-    ensures { result ≡ fault_of_reason reason }
-{
-    match reason {
-        Refused::Memory => NotAnswered::Memory,
-        _ => NotAnswered::Node(reason),
-    }
-}
-
-/// What a refused evaluation is to the command.
-fn fault_of_evaluation(fault: EvalFault) -> NotAnswered
-    ensures { result ≡ fault_of_evaluation fault }
-{
-    match fault {
-        EvalFault::Memory => NotAnswered::Memory,
-        EvalFault::Work => NotAnswered::Work,
-        _ => NotAnswered::Evaluation(fault),
     }
 }

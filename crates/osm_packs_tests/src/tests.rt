@@ -1,6 +1,8 @@
 //! The commands over four objects and their pack.
 
+mod adding;
 mod failing_pack;
+mod files_querying;
 mod four_objects;
 mod packing;
 mod packing_within;

@@ -4,6 +4,8 @@
 //! error, and gives the status with which the program ends.
 #![tactic(auto)]
 
+mod adding;
+mod heads;
 mod packing;
 mod querying;
 

@@ -2,6 +2,7 @@
 
 ghost use Rattle.pack_jobs.specs.Jobs.{IsPack};
 
+use crate::adding::add_changes;
 use command_line::Job;
 use osm_commands::{CommandFault, Status};
 use osm_keys::Edition;
@@ -21,6 +22,7 @@ pub fn start_pack(rt: &HostRuntime, job: Job) -> Status
     let Job::Pack {
         file,
         pack_file: place,
+        add,
         memory,
         temp,
         edition,
@@ -28,6 +30,9 @@ pub fn start_pack(rt: &HostRuntime, job: Job) -> Status
     else {
         unreachable!("the job is to pack")
     };
+    if add {
+        return add_changes(rt, &file, &place);
+    }
     let folder = match &temp {
         // (as for a path, which an empty name leaves as it is)
         Some(folder) if folder.as_str().is_empty() => ".",

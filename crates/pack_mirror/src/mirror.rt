@@ -1,6 +1,6 @@
 //! A pack file as a mirror.
 
-ghost use Rattle.std.specs.Prelude.{◌≡◌, IfErr, IfOk, List, Ok, length, take, ℕ, ⊤};
+ghost use Rattle.std.specs.Prelude.{◌≡◌, ◌⊎◌, IfErr, IfOk, List, Ok, length, take, ℕ, ⊤};
 ghost use Rattle.tree_node.specs.Outcomes.{Clash};
 ghost use Rattle.osm_keys.specs.Publications.{IsPublication, Publication, root_of};
 ghost use Rattle.ql_eval.specs.Work.{IsNodeOf};
@@ -12,7 +12,7 @@ ghost use Rattle.pack_mirror.specs.Roots.{StandsFor};
 
 use crate::answering::{answer_from_nodes, prove_from_nodes};
 use crate::kept::KeptNodes;
-use node_pack::{PackFault, PackSource, ReadAt};
+use node_pack::{PackFault, PackSource, Place, ReadAt};
 use osm_gate::{Mirror, MirrorFault};
 use osm_prove::{Answered, Proved};
 use std::alloc::Global;
@@ -22,8 +22,8 @@ use tree_node::Digest;
 /// How many bytes a mirror keeps from query to query at most, 64 MiB.
 pub const STOCK_LIMIT: u64 = 67_108_864;
 
-/// A pack file that queries are asked of. Contracts see it as the root that its header stated when it was opened: what the
-/// file gives may change at any time, and nothing of it is trusted.
+/// A pack file that queries are asked of, or the files that a head names. Contracts see it as the root that the header stated
+/// when it was opened, or that of the head: what the file gives may change at any time, and nothing of it is trusted.
 ///
 /// The file stays open, and its header is read once. A query reads the nodes that it needs, each of them once, and digests
 /// them. They are kept for later queries, as are the places in the file that were learned of them; so a query that needs only
@@ -90,13 +90,44 @@ impl<F: ReadAt + Drop> PackMirror<F> {
     {
         let source = PackSource::open(alloc, file)?;
         let root = source.root();
-        Ok(PackMirror {
-            nodes: KeptNodes::new(alloc, source, limit),
-            root,
-        })
+        Ok(PackMirror::over(alloc, source, root, limit))
     }
 
-    /// The root that the header stated when the pack was opened.
+    /// Goes on from the place of a manifest in files that are read as one, as a head names them; [`STOCK_LIMIT`] bytes of them
+    /// are kept at most. No node is read yet, so where the files are of another root each query finds the device failed.
+    ///
+    /// # Errors
+    ///
+    /// `Device` where the files can't be opened, and `Memory` where an allocation is refused.
+    pub fn open_at(
+        alloc: Global,
+        files: F,
+        root: Digest,
+        manifest: Place,
+    ) -> Result<PackMirror<F>, PackFault>
+        // Under the root of a publication it stands for that publication, whatever the files hold, unless a node of it and other
+        // bytes have one digest.
+        ensures stands { (p : Publication) → root.0 ≡ root_of p → IsPublication p
+            → ¬ Clash (IsNodeOf p) (λ _. ⊤) → IfOk result (λ mirror. StandsFor mirror p) }
+        ensures root { IfOk result (λ mirror. mirror ≡ root) }
+        ensures refused { IfErr result (λ fault. (fault ≡ PackFault.Device)
+            ⊎ (fault ≡ PackFault.Memory)) }
+    {
+        let source = PackSource::open_at(alloc, files, root, manifest)?;
+        Ok(PackMirror::over(alloc, source, root, STOCK_LIMIT))
+    }
+
+    /// The mirror of this root, over the nodes of a source.
+    fn over(alloc: Global, source: PackSource<F>, root: Digest, limit: u64) -> PackMirror<F>
+        ensures { result ≡ root }
+    {
+        PackMirror {
+            nodes: KeptNodes::new(alloc, source, limit),
+            root,
+        }
+    }
+
+    /// The root that the header stated when the pack was opened, or whoever opened the files.
     pub fn root(&self) -> &Digest
         ensures { result.now ≡ self.now }
     {

@@ -4,30 +4,34 @@ use super::are_shown;
 use super::fetch_and_relay::{Row, is_row};
 use std::test::Fail;
 
-pub(super) const PACK: [(&str, &str); 6] = [
+pub(super) const PACK: [(&str, &str); 7] = [
+    (
+        "m pack --add 5.opl a.pack",
+        "Pack { file: \"5.opl\", pack_file: \"a.pack\", add: true, memory: 1073741824, temp: None, edition: Two { sequence: 0 } }",
+    ),
     (
         "m pack a.opl a.pack",
-        "Pack { file: \"a.opl\", pack_file: \"a.pack\", memory: 1073741824, temp: None, edition: Two { sequence: 0 } }",
+        "Pack { file: \"a.opl\", pack_file: \"a.pack\", add: false, memory: 1073741824, temp: None, edition: Two { sequence: 0 } }",
     ),
     (
         "m pack --sequence 7 a.opl a.pack --edition 2 --memory 5",
-        "Pack { file: \"a.opl\", pack_file: \"a.pack\", memory: 5, temp: None, edition: Two { sequence: 7 } }",
+        "Pack { file: \"a.opl\", pack_file: \"a.pack\", add: false, memory: 5, temp: None, edition: Two { sequence: 7 } }",
     ),
     (
         "m pack a.opl --edition=1 --temp /t a.pack",
-        "Pack { file: \"a.opl\", pack_file: \"a.pack\", memory: 1073741824, temp: Some(\"/t\"), edition: One }",
+        "Pack { file: \"a.opl\", pack_file: \"a.pack\", add: false, memory: 1073741824, temp: Some(\"/t\"), edition: One }",
     ),
     (
         "m pack --memory=18446744073709551615 --temp= a b",
-        "Pack { file: \"a\", pack_file: \"b\", memory: 18446744073709551615, temp: Some(\"\"), edition: Two { sequence: 0 } }",
+        "Pack { file: \"a\", pack_file: \"b\", add: false, memory: 18446744073709551615, temp: Some(\"\"), edition: Two { sequence: 0 } }",
     ),
     (
         "m pack a --memory 0 b --temp .",
-        "Pack { file: \"a\", pack_file: \"b\", memory: 0, temp: Some(\".\"), edition: Two { sequence: 0 } }",
+        "Pack { file: \"a\", pack_file: \"b\", add: false, memory: 0, temp: Some(\".\"), edition: Two { sequence: 0 } }",
     ),
     (
         "m pack -- -a -b",
-        "Pack { file: \"-a\", pack_file: \"-b\", memory: 1073741824, temp: None, edition: Two { sequence: 0 } }",
+        "Pack { file: \"-a\", pack_file: \"-b\", add: false, memory: 1073741824, temp: None, edition: Two { sequence: 0 } }",
     ),
 ];
 

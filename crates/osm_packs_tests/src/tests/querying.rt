@@ -15,15 +15,15 @@ use std::test::Fail;
 use test_devices::Stop;
 use tree_node::Digest;
 
-const NO_LIMITS: Limits = Limits {
+pub(super) const NO_LIMITS: Limits = Limits {
     bytes: None,
     work: None,
 };
 
-const QUERY: &str = "node(1);out;";
+pub(super) const QUERY: &str = "node(1);out;";
 
 /// Queries and their answers, as docs/FORMATS.md works them out.
-const ANSWERS: [(&str, &str); 5] = [
+pub(super) const ANSWERS: [(&str, &str); 5] = [
     (QUERY, "n1 Thighway=crossing x13.4 y52.5\n"),
     (
         "node(2);out meta;",

@@ -1,0 +1,3 @@
+mod AddLemmas
+mod FaultLemmas
+mod HeadLemmas

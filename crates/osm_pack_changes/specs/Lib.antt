@@ -1,0 +1,4 @@
+pub mod Adding
+pub mod Faults
+pub mod Heads
+pub mod internal
