@@ -5,7 +5,6 @@ use node_pack::{PackSource, Place, write_pack};
 use opl_codec::{Change, read_changes, read_set};
 use osm_index::{Delta, Edition, Snapshot};
 use outside_shelf::{OutsideShelf, Refused};
-use pack_devices::pack_of;
 use pack_files::JoinedFiles;
 use pack_update::{AddFault, Added, Readers, add_changes};
 use std::alloc::{AllocError, Global};
@@ -19,6 +18,10 @@ pub(super) const SET: &str =
 n2 x13.4000001 y52.5\n\
 w10 Thighway=primary,name=A%20%B Nn1,n2,n1\n\
 r100 Ttype=route Mw10@outer,n99@stop,r100@\n";
+
+/// More bytes than a file of the tests has. What is written has room for so many from the first, since a vector that is out of memory
+/// is a writer that fails.
+const FILE_LIMIT: usize = 1_048_576;
 
 /// The edition in which the tests begin.
 pub(super) const SEVENTH: Edition = Edition::Two { sequence: 7 };
@@ -39,7 +42,7 @@ impl Published {
     pub(super) fn new(alloc: Global, set: &str, edition: Edition) -> Result<Published, Fail> {
         let set = read_set(alloc, &mut set.as_bytes())?;
         let snapshot = Snapshot::build(alloc, set, edition)?;
-        let pack = pack_of(alloc, snapshot.stock(), snapshot.root())?;
+        let pack = pack_of(alloc, &snapshot)?;
         let manifest = manifest_in(pack.as_slice())?;
         let files = vec![in alloc; pack]?;
         Ok(Published {
@@ -79,7 +82,7 @@ impl Published {
     /// has, and all is told as it is.
     pub(super) fn add(&mut self, alloc: Global, changes: &str) -> Result<bool, Fail> {
         let changes = changes_of(alloc, changes)?;
-        let mut file = Vec::new(alloc);
+        let mut file = Vec::with_capacity(alloc, FILE_LIMIT)?;
         let added = self.write(alloc, changes.as_slice(), &mut file)?;
         let Delta {
             added: new,
@@ -95,6 +98,14 @@ impl Published {
         self.files.push(file)?;
         Ok(is_told && is_as_long && has_all(alloc, self)?)
     }
+}
+
+/// The pack of a snapshot.
+fn pack_of(alloc: Global, snapshot: &Snapshot) -> Result<Vec<u8>, Fail> {
+    let mut pack = Vec::with_capacity(alloc, FILE_LIMIT)?;
+    let mut shelf = snapshot.stock().shelf(alloc);
+    write_pack(alloc, &mut shelf, snapshot.root(), &mut pack)?;
+    Ok(pack)
 }
 
 /// The changes of this text.
@@ -175,12 +186,12 @@ fn child_count(node: &[u8]) -> usize {
 /// Whether files have each node of their snapshot: a pack that is copied from them is that of the snapshot.
 pub(super) fn has_all(alloc: Global, published: &Published) -> Result<bool, Fail> {
     let snapshot = &published.snapshot;
-    let wanted = pack_of(alloc, snapshot.stock(), snapshot.root())?;
+    let wanted = pack_of(alloc, snapshot)?;
     let arena = Bump::new(alloc);
     let files = joined(alloc, published.files.as_slice())?;
     let source = PackSource::open_at(alloc, files, *snapshot.root(), published.manifest)?;
     let mut shelf = OutsideShelf::new(alloc, &arena, source, None);
-    let mut copied = Vec::new(alloc);
+    let mut copied = Vec::with_capacity(alloc, FILE_LIMIT)?;
     write_pack(alloc, &mut shelf, snapshot.root(), &mut copied)?;
     Ok(copied == wanted)
 }
