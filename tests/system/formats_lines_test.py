@@ -22,9 +22,9 @@ from runs import PROGRAM, SECONDS, Outcome, Tally, run
 from serve_test import refused_in_request, server, told
 from trees import digest, reference
 
-# Two nodes that share a digest, a tree of more than 2^29 entries, a file of 2^32 reads; and files that list a node which changes make
-# before it is there.
-UNREACHED = {"I1", "I4", "O15", "a malformed node"}
+# Two nodes that share a digest, a tree of more than 2^29 entries, a file of 2^32 reads; files that list a node which changes make
+# before it is there; and a further file of more than 2^48 bytes.
+UNREACHED = {"I1", "I4", "O15", "a malformed node", "the pack is too long"}
 
 # How the page shortens a root, and the ports and the mirror that it names (the mirror's name has to lead somewhere).
 SHORTENED = {"e669..": "[0-9a-f]{64}", "8080, over": r"\d+, over", "8090, relays": r"\d+, relays", "mirror.example": r"127\.0\.0\.1"}
