@@ -69,6 +69,10 @@ def main():
     root = told("pack", "--add", changes, pack)
     assert root == told("pack", changed, new, "--sequence", "1")
     print(f"{count} changes: {further.stat().st_size} bytes of a further file; {new.stat().st_size} bytes of a new pack")
+    compacted = extract.with_suffix(".compacted.pack")
+    words = shlex.join(map(str, [PROGRAM, "pack", "--compact", head, compacted]))
+    measure(objects, runs, ("pack --compact", words), ("pack anew", anew))
+    assert compacted.read_bytes() == new.read_bytes()
     root = root.decode().strip()
     for name, text in QUERIES.items():
         query = text.format(middle=objects // 4)

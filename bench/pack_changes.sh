@@ -1,6 +1,6 @@
 #!/usr/bin/env bash
-# Changes beside a pack: `pack --add` of so many changed nodes beside `pack` of the changed set anew, and `query` from the head and its
-# files beside `query` from the new pack. Each is a run of its own program, with the files in the page cache. Prints sizes, processor
+# Changes beside a pack: `pack --add` of so many changed nodes beside `pack` of the changed set anew, `pack --compact` of the files beside
+# it too, and `query` from the head and its files beside `query` from the new pack. Each is a run of its own program, with the files in the page cache. Prints sizes, processor
 # time and peak memory.
 #
 #   apt-get install time

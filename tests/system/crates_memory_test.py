@@ -40,6 +40,7 @@ MODULES = {
     "pack_files": ("pack_tests", "joined"),
     "pack_assembly": ("pack_tests", "assembly"),
     "pack_build": ("pack_tests", "building"),
+    "pack_compact": ("pack_update_tests", "compacted"),
     "osm_keys": ("osm_index_tests", "snapshots::cells"),
     "light_keys": ("osm_index_tests", "light"),
     "ql_plain": ("answer_tests", "plain_answers"),

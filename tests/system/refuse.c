@@ -3,7 +3,8 @@
  * Calls are counted from the start of `main`, each kind by itself, from 1:
  *   REFUSE_ALLOCATION=N  the Nth malloc, calloc or realloc answers null, with ENOMEM
  *   REFUSE_READ=N        the Nth read fails
- *   REFUSE_WRITE=N       the Nth write fails; likewise REFUSE_SYNC (fsync) and REFUSE_RENAME
+ *   REFUSE_WRITE=N       the Nth write fails; likewise REFUSE_SYNC (fsync) and REFUSE_RENAME, and REFUSE_PREAD and
+ *                        REFUSE_PWRITE, which are reads and writes at an offset
  *   REFUSE_RECV=N        the Nth recv fails; likewise REFUSE_SEND, REFUSE_ACCEPT, REFUSE_SOCKET, REFUSE_BIND,
  *                        REFUSE_LISTEN and REFUSE_NAME (getsockname)
  *   REFUSE_ERRNO=E       with this errno (EIO where it is left out); 0: the call answers 0 in place of failing
@@ -38,7 +39,7 @@ struct calls {
 };
 
 static struct calls allocations, reads, writes, recvs, sends, accepts, sockets, binds, listens, names;
-static struct calls syncs, renames;
+static struct calls preads, pwrites, syncs, renames;
 static unsigned long most_read, most_written;
 static int refused_with = EIO;
 static const char *mark, *count_file;
@@ -103,6 +104,18 @@ ssize_t write(int file, const void *bytes, size_t count) {
     if (is_refused(&writes))
         return refusal();
     return syscall(SYS_write, file, bytes, shortened(count, most_written));
+}
+
+ssize_t pread(int file, void *bytes, size_t count, off_t offset) {
+    if (is_refused(&preads))
+        return refusal();
+    return syscall(SYS_pread64, file, bytes, count, offset);
+}
+
+ssize_t pwrite(int file, const void *bytes, size_t count, off_t offset) {
+    if (is_refused(&pwrites))
+        return refusal();
+    return syscall(SYS_pwrite64, file, bytes, count, offset);
 }
 
 int fsync(int file) {
@@ -188,6 +201,8 @@ int __libc_start_main(main_type *main, int count, char **words, void (*init)(voi
     allocations.refused = number("REFUSE_ALLOCATION");
     reads.refused = number("REFUSE_READ");
     writes.refused = number("REFUSE_WRITE");
+    preads.refused = number("REFUSE_PREAD");
+    pwrites.refused = number("REFUSE_PWRITE");
     syncs.refused = number("REFUSE_SYNC");
     renames.refused = number("REFUSE_RENAME");
     recvs.refused = number("REFUSE_RECV");

@@ -57,7 +57,7 @@ def run_refused(words, stdin, kind, number, others):
 def each_refused(words, stdin, kind, **others):
     """Refuses each call of a kind in turn: yields (number, outcome) from 1 until a run has no such call.
 
-    `kind` is REFUSE_ALLOCATION, REFUSE_READ or REFUSE_WRITE; `others` are further variables of refuse.c.
+    `kind` is REFUSE_ALLOCATION, REFUSE_READ or REFUSE_WRITE, say; `others` are further variables of refuse.c.
     """
     built_library()
     at_once = 16 * len(os.sched_getaffinity(0))

@@ -56,10 +56,11 @@ Gives (Fetch root mirror query form max_size max_work) name rows = (name ≡ fet
     × AsksForForm (first_of (codes "form") rows) form
     × IsNumberOrNone 64 (one_of (codes "max-size") rows) max_size
     × IsNumberOrNone 64 (one_of (codes "max-work") rows) max_work
-Gives (Pack file pack add memory temp edition) name rows = (name ≡ pack_name)
+Gives (Pack file pack add compact memory temp edition) name rows = (name ≡ pack_name)
     × (string_bytes file ≡ text_of (codes "FILE") rows)
     × (string_bytes pack ≡ text_of (codes "PACK") rows)
     × IsFlag (one_of (codes "add") rows) add
+    × IsFlag (one_of (codes "compact") rows) compact
     × IsNumber 64 1073741824 (one_of (codes "memory") rows) memory
     × (option_map string_bytes temp ≡ first_of (codes "temp") rows)
     × AsksForEdition (first_of (codes "edition") rows) (one_of (codes "sequence") rows) edition

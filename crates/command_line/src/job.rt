@@ -77,15 +77,17 @@ pub enum Job {
         /// The most work that the query may take, if there is a limit.
         max_work: Option<u64>,
     },
-    /// `pack FILE PACK [--add] [--memory BYTES] [--temp DIR] [--edition 1|2] [--sequence N]`: write the pack of a set, or add
-    /// changes to one, and tell the root.
+    /// `pack FILE PACK [--add] [--compact] [--memory BYTES] [--temp DIR] [--edition 1|2] [--sequence N]`: write the pack of a
+    /// set, add changes to one, or write one anew, and tell the root.
     Pack {
-        /// The OPL file with the set's objects, or the file with the changes.
+        /// The OPL file with the set's objects; or the file with the changes; or the head of a pack that is written anew.
         file: String,
         /// The file that the pack is written to; or the pack to which changes are added, or its head.
         pack_file: String,
         /// Whether changes are added. Memory, folder and edition mean nothing then.
         add: bool,
+        /// Whether a pack is written anew. The edition means nothing then.
+        compact: bool,
         /// How many bytes of the set may be held in memory at a time.
         memory: u64,
         /// The folder for temporary files, if one is named.

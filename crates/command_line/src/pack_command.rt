@@ -1,4 +1,4 @@
-//! The command `pack FILE PACK [--add] [--memory BYTES] [--temp DIR] [--edition 1|2] [--sequence N]`.
+//! The command `pack FILE PACK [--add] [--compact] [--memory BYTES] [--temp DIR] [--edition 1|2] [--sequence N]`.
 
 ghost use Rattle.std.specs.Prelude.{◌≡◌, ◌⊎◌, IfErr, IfOk, codes};
 ghost use Rattle.clap.specs.Words.{first_of, found_of, one_of, rows_of};
@@ -6,7 +6,7 @@ ghost use Rattle.command_line.specs.EditionOptions.{IsBadEdition};
 ghost use Rattle.command_line.specs.internal.Commands.{IsCommand, argument_rule};
 ghost use Rattle.command_line.specs.Flags.{IsFlag};
 ghost use Rattle.command_line.specs.Jobs.{Gives};
-ghost use Rattle.command_line.specs.PackCommand.{add_rule, pack_app, pack_name, temp_rule};
+ghost use Rattle.command_line.specs.PackCommand.{add_rule, compact_rule, pack_app, pack_name, temp_rule};
 
 use crate::arguments::{Argument, Place, Value, command_with, optional_text_of, text_of};
 use crate::edition_options::{edition_of, edition_option, sequence_option};
@@ -25,7 +25,7 @@ const ABOUT: &str =
 
 const INPUT_FILE: Argument = Argument {
     name: "FILE",
-    help: "OPL file with the objects of the set; with --add, file of changes",
+    help: "OPL file with the objects of the set; with --add, file of changes; with --compact, head or pack",
     place: Place::Positional,
     value: Value::AnyText,
 };
@@ -42,6 +42,11 @@ const ADD: &str = "add";
 const ADD_HELP: &str =
     "Add the changes of FILE: the new nodes go to a further file, PACK.1 and so on, which PACK.head names";
 
+const COMPACT: &str = "compact";
+
+const COMPACT_HELP: &str =
+    "Write the set whose files FILE names as one file anew, which is PACK; the others stay as they are";
+
 const TEMP: &str = "temp";
 
 const TEMP_HELP: &str =
@@ -55,6 +60,7 @@ pub(crate) fn pack_command<'a>(alloc: Global) -> Result<Command<'a>, AllocError>
         INPUT_FILE,
         PACK_FILE,
         add_option(),
+        compact_option(),
         memory_option(),
         temp_option(),
         edition_option(),
@@ -69,6 +75,17 @@ fn add_option() -> Argument
     Argument {
         name: ADD,
         help: ADD_HELP,
+        place: Place::Flag,
+        value: Value::AnyText,
+    }
+}
+
+fn compact_option() -> Argument
+    ensures { argument_rule result ≡ compact_rule }
+{
+    Argument {
+        name: COMPACT,
+        help: COMPACT_HELP,
         place: Place::Flag,
         value: Value::AnyText,
     }
@@ -100,6 +117,7 @@ pub(crate) fn pack_job(alloc: Global, matches: &ArgMatches<'_>) -> Result<Job, W
         file,
         pack_file,
         add: add_of(matches),
+        compact: compact_of(matches),
         memory: memory_of(matches),
         temp,
         edition,
@@ -111,4 +129,11 @@ fn add_of(matches: &ArgMatches<'_>) -> bool
     ensures { IsFlag (one_of (codes "add") (rows_of (found_of matches.now))) result }
 {
     matches.get_flag(ADD)
+}
+
+/// Whether the matches have the flag `--compact`.
+fn compact_of(matches: &ArgMatches<'_>) -> bool
+    ensures { IsFlag (one_of (codes "compact") (rows_of (found_of matches.now))) result }
+{
+    matches.get_flag(COMPACT)
 }

@@ -13,6 +13,7 @@ mod SourceLemmas
 mod StepLemmas
 mod TableLemmas
 mod WholeLemmas
+mod WholeRecordLemmas
 mod WriteLemmas
 mod WrittenLemmas
 pub mod shared

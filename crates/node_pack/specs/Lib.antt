@@ -9,4 +9,5 @@ pub mod Placed
 pub mod Places
 pub mod Reached
 pub mod Sources
+pub mod WholeRecords
 pub mod internal

@@ -27,6 +27,7 @@ mod round;
 mod row;
 mod source;
 mod step;
+mod whole_record;
 mod write_fault;
 mod writing;
 
@@ -38,5 +39,6 @@ pub use learn::FILE_LIMIT;
 pub use place::Place;
 pub use read_at::{ReadAt, ReadFault};
 pub use source::PackSource;
+pub use whole_record::Record;
 pub use write_fault::WriteFault;
 pub use writing::write_pack;

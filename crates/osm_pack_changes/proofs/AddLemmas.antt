@@ -1,18 +1,17 @@
 -- What a change file that was read makes of a publication.
-use Rattle.std.proofs.Common.{◌≡◌, ◌≢◌, ◌⊎◌, inl, inr, ◌≤◌, ◌<◌, ◌+◌, ◌-◌, ◌^◌, ℕ, List, [], ◌∷◌, ◌++◌, Option, Some, None, Result, Ok, Err, length, map, refl, sym, ap, subst, ◌∙◌, arith, length-append}
-use Rattle.std.specs.List.{AllByRecursion}
-use Rattle.std.specs.Prelude.{◌↔◌, IfErr, IfOk, IfSome, IsTrue, Bool, true, false, ⊤}
+use Rattle.std.proofs.Common.{◌≡◌, ◌≢◌, ◌⊎◌, inl, inr, ℕ, List, ◌++◌, Option, Some, None, refl, sym, ap, subst, ◌∙◌}
+use Rattle.std.specs.Prelude.{◌↔◌, IfSome, IsTrue, Bool, true, false}
 use Rattle.std.proofs.lemmas.List.{append_cancel_left}
 use Rattle.hex.specs.Hex.{encode_lower}
 use Rattle.opl_codec.specs.declared.change.Change.{Change}
-use Rattle.opl_codec.specs.Files.{HoldsChangeFile, HoldsChanges, StopsChanges, end_comment}
+use Rattle.opl_codec.specs.Files.{HoldsChangeFile, StopsChanges, end_comment}
 use Rattle.opl_codec.specs.LineReads.{no_memory}
 use Rattle.opl_codec.specs.declared.cause.OplCause.{OplCause}
 use Rattle.opl_codec.specs.declared.cause.OplCause.TheVariants as causes
 use Rattle.opl_codec.specs.declared.fault.LoadFault.{LoadFault}
 use Rattle.opl_codec.specs.declared.change_file.ChangeFile.{ChangeFile}
 use Rattle.osm_keys.specs.Publications.{Publication, root_of}
-use Rattle.pack_update.specs.Adding.{HasFurther, IsAddedOf, IsNextBy}
+use Rattle.pack_update.specs.Adding.{IsAddedOf, IsNextBy}
 use Rattle.pack_update.specs.declared.added.Added.{Added}
 use Rattle.osm_desk.specs.AnnouncedRoots.{root_words}
 use Rattle.osm_desk.specs.Published.{GivesChanges}

@@ -1,3 +1,4 @@
 mod AddLemmas
+mod CompactLemmas
 mod FaultLemmas
 mod HeadLemmas

@@ -1,7 +1,7 @@
 -- What a change file makes of a set whose nodes stand in files.
 -- Source: this project.
 use Rattle.std.specs.Io.KnownBytes.{Appends}
-use Rattle.std.specs.Prelude.{◌≡◌, ℕ, List, Option}
+use Rattle.std.specs.Prelude.{ℕ, List, Option}
 use Rattle.opl_codec.specs.declared.change.Change.{Change}
 use Rattle.osm_keys.specs.Publications.{Publication}
 use Rattle.pack_head.specs.Heads.{IsHead, head_text}

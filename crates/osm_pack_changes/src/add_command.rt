@@ -11,13 +11,14 @@ ghost use Rattle.pack_update.specs.Adding.{HasFurther, IsAddedOf, IsRootOf};
 ghost use Rattle.pack_update.specs.Files.{AreFilesOf};
 ghost use Rattle.osm_commands.specs.TreeRoots.{publication_line};
 ghost use Rattle.osm_pack_changes.specs.Adding.{HasAddedFile, IsNextOf};
-ghost use Rattle.osm_pack_changes.specs.Heads.{manifest_place};
+ghost use Rattle.osm_pack_changes.specs.Heads.{manifest_place as place_in};
 ghost use Rattle.osm_pack_changes.specs.Faults.{Explains, IsBeforeWriting};
 ghost use Rattle.osm_pack_changes.specs.internal.Reading.{IsAsCommented, IsNextBeside, RefusesRead, comment_of};
 
+use crate::manifest::manifest_place;
 use crate::next_head::next_head_text;
 use crate::not_added::NotAdded;
-use node_pack::{Place, ReadAt};
+use node_pack::ReadAt;
 use opl_codec::{ChangeFile, read_change_file};
 use osm_commands::{FlushingWriter, ReplacingWriter, root_line, write_whole};
 use pack_head::{FILES_LIMIT, Head, is_head_name};
@@ -67,7 +68,7 @@ pub fn add_to_pack<
         ⊎ Clash (IsNodeIn p) (λ _. ⊤) }
     // Where the files have the nodes of that publication, the next head and the files that it names are those of the next one.
     ensures added { (p : Publication) (contents : List (List ℕ)) → IsRootOf p head.now.root.0
-        → F.reads files.places (joined contents) → AreFilesOf contents p (manifest_place head.now)
+        → F.reads files.places (joined contents) → AreFilesOf contents p (place_in head.now)
         → length contents ≡ length head.now.files.items
         → OnOk result ((q : Publication) × IsNextOf (C.remaining change_file.old) p q
         × HasAddedFile contents head.now name.now q
@@ -115,7 +116,7 @@ fn add_read<F: ReadAt + Drop, W: Write>(
         → IfOk result (λ added. (q : Publication) × IsNextBeside p read.now q × IsAddedOf q added)
         ⊎ Clash (IsNodeIn p) (λ _. ⊤) }
     ensures whole { (p : Publication) (contents : List (List ℕ)) → IsRootOf p head.now.root.0
-        → F.reads files.places (joined contents) → AreFilesOf contents p (manifest_place head.now)
+        → F.reads files.places (joined contents) → AreFilesOf contents p (place_in head.now)
         → length contents ≡ length head.now.files.items
         → IfOk result (λ added. (q : Publication) × IsNextBeside p read.now q × IsAddedOf q added
         × HasFurther contents q added (W.contents further.old) (W.contents further.new))
@@ -133,16 +134,12 @@ fn add_read<F: ReadAt + Drop, W: Write>(
     if !is_head_name(name) {
         return Err(NotAdded::Name);
     }
-    let manifest = Place {
-        at: head.manifest_at,
-        len: head.manifest_len,
-    };
     let added = add_changes(
         alloc,
         files,
         number as u16,
         &head.root,
-        manifest,
+        manifest_place(head),
         &read.changes,
         further,
     )?;

@@ -29,7 +29,8 @@ use Rattle.pack_build.specs.Building.{Explains, IsBuilt, IsPublicationIn}
 use Rattle.pack_build.specs.Faults.{fault_of_assembly, fault_of_entries}
 use Rattle.pack_build.specs.declared.fault.BuildFault.{BuildFault}
 use Rattle.pack_build.specs.declared.fault.BuildFault.TheVariants as faults
-use Rattle.pack_build.specs.internal.Trees.{AreTreesOf, IsPackedAs, IsSorted, IsUnpacked}
+use Rattle.pack_build.specs.Trees.{AreTreesOf, IsPackedAs, IsUnpacked}
+use Rattle.pack_build.specs.internal.Sorting.{IsSorted}
 
 module _ (p : Publication) (edition : Edition) (shape : Shape) (taken : Tree → List Binding) (is_shape : shape ≡ shape_of edition) (sorted : IsSorted p edition taken) where
   pub published : {S M : Type 0} (builder : TreesBuilder S M) → HasEntries builder shape taken → IsPublication p

@@ -1,4 +1,5 @@
 pub mod Building
 pub mod Faults
 pub mod Taken
+pub mod Trees
 pub mod internal

@@ -1,3 +1,3 @@
 -- Words that only private clauses cite: nothing that a reader of the promises must believe.
 pub mod Faults
-pub mod Trees
+pub mod Sorting

@@ -5,7 +5,8 @@ ghost use Rattle.osm_keys.specs.Publications.{IsPublication, Publication, shape_
 ghost use Rattle.tree_build.specs.Shapes.{shape_of as shape_word};
 ghost use Rattle.pack_build.specs.Building.{Explains, IsBuilt};
 ghost use Rattle.pack_build.specs.Taken.{taken_by};
-ghost use Rattle.pack_build.specs.internal.Trees.{AreTreesOf, IsPackedAs, IsSorted, IsUnpacked};
+ghost use Rattle.pack_build.specs.Trees.{AreTreesOf, IsPackedAs, IsUnpacked};
+ghost use Rattle.pack_build.specs.internal.Sorting.{IsSorted};
 
 use crate::fault::BuildFault;
 use crate::sink::TreesSink;
@@ -99,8 +100,11 @@ fn finish_sorted<S: RunStore, M: StoreMaker<S> + Drop, W: Write, B: BuildProgres
     }
 }
 
-/// Writes the pack of these trees, which are in this edition, and gives its root. The store is for the digests of nodes.
-fn write_trees<S: RunStore, W: Write>(
+/// Writes the pack of these trees, which are in this edition, and gives its root. The store, which is empty, is for the digests of
+/// nodes, of which `memory` bytes are held while they are sorted. The writer gets small pieces and isn't flushed.
+///
+/// Refused with `Clash`, `TooLong`, `Memory`, `Device` and `NotWritten`, as [`build_pack`] is.
+pub fn write_trees<S: RunStore, W: Write>(
     alloc: Global,
     edition: Edition,
     trees: FinishedTrees<S>,
@@ -110,10 +114,13 @@ fn write_trees<S: RunStore, W: Write>(
 ) -> Result<Digest, BuildFault>
     requires runs { S.runs store ≡ [] }
     requires in_hand { S.in_hand store ≡ [] }
+    // If the trees are those of a publication, its pack is written, and its root is given.
     ensures built { S.is_true ≡ true → (p : Publication) → IsPublication p → p.edition ≡ edition
         → AreTreesOf p trees → IfOk result (IsPackedAs p (W.contents pack.old) (W.contents pack.new)) }
+    // Which fault it is then.
     ensures refused { S.is_true ≡ true → (p : Publication) → IsPublication p → p.edition ≡ edition
         → AreTreesOf p trees → IfErr result (IsUnpacked p) }
+    // Nothing is written but where a device or the writer fails.
     ensures untouched { IfErr result (λ fault. fault ≢ BuildFault.Device → fault ≢ BuildFault.NotWritten
         → pack.new ≡ pack.old) }
 {
@@ -135,7 +142,7 @@ fn write_trees<S: RunStore, W: Write>(
 }
 
 /// The shape of an edition's trees.
-fn shape_of(edition: Edition) -> Shape
+pub fn shape_of(edition: Edition) -> Shape
     ensures { shape_word result ≡ shape_in_edition edition }
 {
     match edition {

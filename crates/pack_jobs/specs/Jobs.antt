@@ -5,7 +5,7 @@ use Rattle.command_line.specs.declared.job.Job.{Job}
 use Rattle.command_line.specs.declared.job.Job.TheVariants.{Pack, Query}
 
 abbrev pub IsPack : Job → Type 0
-IsPack (Pack file pack_file add memory temp edition) = ⊤
+IsPack (Pack file pack_file add compact memory temp edition) = ⊤
 IsPack job = ⊥
 
 abbrev pub IsQuery : Job → Type 0

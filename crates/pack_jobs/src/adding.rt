@@ -1,13 +1,13 @@
 //! The command `pack --add`.
 
-use crate::heads::refuse_head;
-use node_pack::{PackFault, PackSource, ReadAt};
+use crate::heads::first_head;
+use node_pack::PackFault;
 use osm_codes::explain;
 use osm_commands::{CommandFault, Status};
 use osm_pack_changes::{NotAdded, add_to_pack};
 use osm_packs::NotAnswered;
 use pack_files::JoinedFiles;
-use pack_head::{Head, HeadFault, HeadFile, is_head_name, read_head};
+use pack_head::{Head, HeadFault, is_head_name, read_head};
 use pack_update::{AddFault, Readers};
 use std::alloc::AllocError;
 use std::cell::Cell;
@@ -15,8 +15,8 @@ use std::io::{IsTerminal, Write};
 use std::path::Path;
 use std::{fs, str};
 use system_files::{
-    CleanOutput, NOTHING, OutputFile, Subject, are_one_file, refuse_one_file, tell_in_words,
-    trouble_of, watched_file,
+    CleanOutput, NOTHING, OutputFile, Subject, are_one_file, refuse_head, refuse_one_file,
+    tell_in_words, trouble_of, watched_file,
 };
 use tcp_places::{PackFile, files_at, head_text, place_beside, places_beside};
 
@@ -66,30 +66,6 @@ fn add_first(rt: &HostRuntime, change_file: &str, pack: &str, place: &str) -> St
             NotAnswered::Pack(fault).status()
         }
     }
-}
-
-/// The head that names a pack alone, which has this name.
-fn first_head<'a>(
-    rt: &HostRuntime,
-    mut pack: PackFile<'_>,
-    name: &'a [u8],
-) -> Result<Head<'a>, PackFault> {
-    let alloc = rt.alloc();
-    let len = pack.size()?;
-    let source = PackSource::open(alloc, pack)?;
-    let root = source.root();
-    let Some(manifest) = source.place(&root) else {
-        return Err(PackFault::Cut);
-    };
-    let mut files = Vec::new(alloc);
-    files.push(HeadFile { len, name })?;
-    Ok(Head {
-        root,
-        sequence: 0,
-        manifest_at: manifest.at,
-        manifest_len: manifest.len,
-        files,
-    })
 }
 
 /// Adds changes to the set of a head with this text.

@@ -1,15 +1,29 @@
-//! Heads that are none.
+//! Packs without a head.
 
-use osm_commands::Status;
-use pack_head::HeadFault;
-use std::io::Write;
+use node_pack::{PackFault, PackSource, ReadAt};
+use pack_head::{Head, HeadFile};
+use tcp_places::PackFile;
 
-/// How the program ends where a text begins as a head does, and is none.
-pub(crate) fn refuse_head(rt: &HostRuntime, fault: HeadFault) -> Status {
-    // Where standard error takes nothing, the status still tells.
-    let _ = writeln!(rt.stderr(), "{fault}");
-    match fault {
-        HeadFault::Line(_) => Status::Refused,
-        HeadFault::Memory => Status::Failed,
-    }
+/// The head that names a pack alone, which has this name.
+pub(crate) fn first_head<'a>(
+    rt: &HostRuntime,
+    mut pack: PackFile<'_>,
+    name: &'a [u8],
+) -> Result<Head<'a>, PackFault> {
+    let alloc = rt.alloc();
+    let len = pack.size()?;
+    let source = PackSource::open(alloc, pack)?;
+    let root = source.root();
+    let Some(manifest) = source.place(&root) else {
+        return Err(PackFault::Cut);
+    };
+    let mut files = Vec::new(alloc);
+    files.push(HeadFile { len, name })?;
+    Ok(Head {
+        root,
+        sequence: 0,
+        manifest_at: manifest.at,
+        manifest_len: manifest.len,
+        files,
+    })
 }

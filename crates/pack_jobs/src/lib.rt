@@ -5,9 +5,11 @@
 #![tactic(auto)]
 
 mod adding;
+mod compacting;
 mod heads;
 mod packing;
 mod querying;
+mod server_querying;
 
 pub use packing::start_pack;
 pub use querying::start_query;

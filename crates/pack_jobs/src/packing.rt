@@ -3,12 +3,14 @@
 ghost use Rattle.pack_jobs.specs.Jobs.{IsPack};
 
 use crate::adding::add_changes;
+use crate::compacting::compact;
 use command_line::Job;
 use osm_commands::{CommandFault, Status};
 use osm_keys::Edition;
 use osm_packs::pack_within;
 use scratch_files::ScratchFolder;
 use std::fs;
+use std::io::Write;
 use std::path::Path;
 use system_files::{
     Building, CleanOutput, OutputFile, Subject, are_one_file, refuse_one_file, report, trouble_of,
@@ -23,6 +25,7 @@ pub fn start_pack(rt: &HostRuntime, job: Job) -> Status
         file,
         pack_file: place,
         add,
+        compact: is_compacting,
         memory,
         temp,
         edition,
@@ -30,6 +33,9 @@ pub fn start_pack(rt: &HostRuntime, job: Job) -> Status
     else {
         unreachable!("the job is to pack")
     };
+    if add && is_compacting {
+        return refuse_both(rt);
+    }
     if add {
         return add_changes(rt, &file, &place);
     }
@@ -40,7 +46,23 @@ pub fn start_pack(rt: &HostRuntime, job: Job) -> Status
         None => folder_of(rt, &place),
     };
     let scratch = ScratchFolder::new(rt, folder);
+    if is_compacting {
+        return compact(rt, &file, &place, scratch, memory);
+    }
     pack_file(rt, &file, &place, scratch, memory, edition)
+}
+
+/// How the program ends where it should both add changes and write a pack anew, as where other words of the command line don't go
+/// together.
+fn refuse_both(rt: &HostRuntime) -> Status {
+    let errors = &mut rt.stderr();
+    // Where standard error takes nothing, the status still tells.
+    let _ = writeln!(
+        errors,
+        "error: the argument '--add' cannot be used with '--compact'"
+    );
+    let _ = writeln!(errors, "\nFor more information, try '--help'.");
+    Status::Refused
 }
 
 /// The folder of a file that is written; the one where the program runs, where something else has this name, as a pipe.

@@ -4,7 +4,6 @@ mod assembly;
 mod building;
 mod entries;
 mod joined;
-mod kept_runs;
 mod packs;
 mod scratch;
 mod small_pack;

@@ -1,5 +1,6 @@
-//! Changes that are added to files.
+//! Changes that are added to files, and files that become one pack.
 
+mod compacted;
 mod devices;
 mod larger;
 mod published;

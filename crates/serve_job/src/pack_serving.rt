@@ -5,14 +5,15 @@ use node_pack::{PackFault, ReadAt};
 use osm_commands::{Status, pack_listening_line};
 use osm_desk::NoLookout;
 use osm_gate::Mirror;
+use osm_pack_changes::manifest_place;
 use osm_packs::NotAnswered;
 use pack_files::JoinedFiles;
-use pack_head::{Head, HeadFault, read_head};
+use pack_head::{Head, read_head};
 use pack_mirror::PackMirror;
 use std::cell::Cell;
 use std::io::Write;
-use system_files::{is_regular_file, port_refused};
-use tcp_places::{PackFile, files_at, head_text, manifest_place, places_beside};
+use system_files::{is_regular_file, port_refused, refuse_head};
+use tcp_places::{PackFile, files_at, head_text, places_beside};
 
 /// Serves the pack of this name on this port, or the files of a head. None where the file isn't a regular one, can't be read, or
 /// begins neither as a pack nor as a head: then it may be an OPL text.
@@ -81,16 +82,6 @@ fn serve_head(
     match PackMirror::open_at(alloc, files, head.root, manifest_place(head)) {
         Ok(mirror) => serve_pack(rt, mirror, port, connections, max_work),
         Err(fault) => refuse_pack(rt, NotAnswered::Pack(fault)),
-    }
-}
-
-/// How the program ends where a text begins as a head does, and is none.
-fn refuse_head(rt: &HostRuntime, fault: HeadFault) -> Status {
-    // Where standard error takes nothing, the status still tells.
-    let _ = writeln!(rt.stderr(), "{fault}");
-    match fault {
-        HeadFault::Line(_) => Status::Refused,
-        HeadFault::Memory => Status::Failed,
     }
 }
 

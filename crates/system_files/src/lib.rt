@@ -7,6 +7,7 @@
 
 mod building;
 mod clean_output;
+mod heads;
 mod in_words;
 mod input_file;
 mod one_file;
@@ -19,6 +20,7 @@ mod watched;
 
 pub use building::Building;
 pub use clean_output::CleanOutput;
+pub use heads::refuse_head;
 pub use in_words::{Subject, Trouble, tell_in_words};
 pub use input_file::InputFile;
 pub use one_file::are_one_file;

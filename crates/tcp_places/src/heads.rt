@@ -3,8 +3,8 @@
 ghost use Rattle.std.specs.Prelude.{◌≤◌, length};
 
 use crate::pack_file::PackFile;
-use node_pack::{Place, ReadAt, ReadFault};
-use pack_head::{Head, HeadFile};
+use node_pack::{ReadAt, ReadFault};
+use pack_head::HeadFile;
 use std::alloc::{AllocError, Global};
 use std::cell::Cell;
 use std::str;
@@ -59,14 +59,6 @@ pub fn files_at<'a>(
         files.push(PackFile::new(rt, path, error))?;
     }
     Ok(files)
-}
-
-/// Where a head says that the manifest's record stands.
-pub fn manifest_place(head: &Head<'_>) -> Place {
-    Place {
-        at: head.manifest_at,
-        len: head.manifest_len,
-    }
 }
 
 /// The place of a file with this name in the folder of another one.

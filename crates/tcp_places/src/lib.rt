@@ -7,7 +7,7 @@ mod pack_file;
 mod tcp_dial;
 mod tcp_wires;
 
-pub use heads::{files_at, head_text, manifest_place, place_beside, places_beside};
+pub use heads::{files_at, head_text, place_beside, places_beside};
 pub use pack_file::PackFile;
 pub use tcp_dial::TcpDial;
 pub use tcp_wires::TcpWires;

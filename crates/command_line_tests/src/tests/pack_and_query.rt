@@ -4,34 +4,38 @@ use super::are_shown;
 use super::fetch_and_relay::{Row, is_row};
 use std::test::Fail;
 
-pub(super) const PACK: [(&str, &str); 7] = [
+pub(super) const PACK: [(&str, &str); 8] = [
+    (
+        "m pack --compact 5.head a.pack --memory 9",
+        "Pack { file: \"5.head\", pack_file: \"a.pack\", add: false, compact: true, memory: 9, temp: None, edition: Two { sequence: 0 } }",
+    ),
     (
         "m pack --add 5.opl a.pack",
-        "Pack { file: \"5.opl\", pack_file: \"a.pack\", add: true, memory: 1073741824, temp: None, edition: Two { sequence: 0 } }",
+        "Pack { file: \"5.opl\", pack_file: \"a.pack\", add: true, compact: false, memory: 1073741824, temp: None, edition: Two { sequence: 0 } }",
     ),
     (
         "m pack a.opl a.pack",
-        "Pack { file: \"a.opl\", pack_file: \"a.pack\", add: false, memory: 1073741824, temp: None, edition: Two { sequence: 0 } }",
+        "Pack { file: \"a.opl\", pack_file: \"a.pack\", add: false, compact: false, memory: 1073741824, temp: None, edition: Two { sequence: 0 } }",
     ),
     (
         "m pack --sequence 7 a.opl a.pack --edition 2 --memory 5",
-        "Pack { file: \"a.opl\", pack_file: \"a.pack\", add: false, memory: 5, temp: None, edition: Two { sequence: 7 } }",
+        "Pack { file: \"a.opl\", pack_file: \"a.pack\", add: false, compact: false, memory: 5, temp: None, edition: Two { sequence: 7 } }",
     ),
     (
         "m pack a.opl --edition=1 --temp /t a.pack",
-        "Pack { file: \"a.opl\", pack_file: \"a.pack\", add: false, memory: 1073741824, temp: Some(\"/t\"), edition: One }",
+        "Pack { file: \"a.opl\", pack_file: \"a.pack\", add: false, compact: false, memory: 1073741824, temp: Some(\"/t\"), edition: One }",
     ),
     (
         "m pack --memory=18446744073709551615 --temp= a b",
-        "Pack { file: \"a\", pack_file: \"b\", add: false, memory: 18446744073709551615, temp: Some(\"\"), edition: Two { sequence: 0 } }",
+        "Pack { file: \"a\", pack_file: \"b\", add: false, compact: false, memory: 18446744073709551615, temp: Some(\"\"), edition: Two { sequence: 0 } }",
     ),
     (
         "m pack a --memory 0 b --temp .",
-        "Pack { file: \"a\", pack_file: \"b\", add: false, memory: 0, temp: Some(\".\"), edition: Two { sequence: 0 } }",
+        "Pack { file: \"a\", pack_file: \"b\", add: false, compact: false, memory: 0, temp: Some(\".\"), edition: Two { sequence: 0 } }",
     ),
     (
         "m pack -- -a -b",
-        "Pack { file: \"-a\", pack_file: \"-b\", add: false, memory: 1073741824, temp: None, edition: Two { sequence: 0 } }",
+        "Pack { file: \"-a\", pack_file: \"-b\", add: false, compact: false, memory: 1073741824, temp: None, edition: Two { sequence: 0 } }",
     ),
 ];
 

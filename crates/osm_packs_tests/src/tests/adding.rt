@@ -21,11 +21,13 @@ use test_devices::Stop;
 use tree_node::Digest;
 
 /// A node more, one that goes, and a way more.
-const CHANGES: &[u8] = b"n9 v1 dV Tname=C x1 y2\nn2 v2 dD\nw7 v2 dV Thighway=path Nn1,n9\n";
+pub(super) const CHANGES: &[u8] =
+    b"n9 v1 dV Tname=C x1 y2\nn2 v2 dD\nw7 v2 dV Thighway=path Nn1,n9\n";
 
 /// The line of the root that they give, and the beginning and the end of the head, as tests/system/pack_heads_test.py works them
 /// out. Where the manifest stands depends on the order of the nodes.
-const NEW_ROOT_LINE: &[u8] = b"c21876cbae25f05e50f006d091f032e9b85924a316017ae59d8f92edf8a9374e\n";
+pub(super) const NEW_ROOT_LINE: &[u8] =
+    b"c21876cbae25f05e50f006d091f032e9b85924a316017ae59d8f92edf8a9374e\n";
 
 const HEAD_FRONT: &[u8] =
     b"osm_mirror head 1\nroot c21876cbae25f05e50f006d091f032e9b85924a316017ae59d8f92edf8a9374e\nsequence 8\nmanifest ";
@@ -33,7 +35,7 @@ const HEAD_FRONT: &[u8] =
 const HEAD_END: &[u8] = b" 193\nfile 855 town.pack\nfile 1001 town.pack.1\n";
 
 /// The head of the pack alone.
-fn first_head(alloc: Global) -> Result<Head<'static>, AllocError> {
+pub(super) fn first_head(alloc: Global) -> Result<Head<'static>, AllocError> {
     let mut files = Vec::new(alloc);
     files.push(HeadFile {
         len: 855,
@@ -58,31 +60,31 @@ fn readers(pack: &[u8]) -> Readers<&[u8]> {
 
 /// The writers of a command.
 #[derive(Drop)]
-struct Writers {
-    further: PlacingWriter,
-    head: PlacingWriter,
-    output: PlacingWriter,
+pub(super) struct Writers {
+    pub(super) further: PlacingWriter,
+    pub(super) head: PlacingWriter,
+    pub(super) output: PlacingWriter,
 }
 
 /// Where a writer stops, and whether what it has can't be put in its place.
 #[derive(Clone, Copy)]
-struct Stops {
-    at: usize,
-    stop: Stop,
-    fails: bool,
+pub(super) struct Stops {
+    pub(super) at: usize,
+    pub(super) stop: Stop,
+    pub(super) fails: bool,
 }
 
-const NEVER: Stops = Stops {
+pub(super) const NEVER: Stops = Stops {
     at: 0,
     stop: Stop::Fails,
     fails: false,
 };
 
-fn writer(alloc: Global, stops: Stops) -> PlacingWriter {
+pub(super) fn writer(alloc: Global, stops: Stops) -> PlacingWriter {
     PlacingWriter::new(alloc, stops.at, stops.stop, stops.fails)
 }
 
-fn new_writers(alloc: Global) -> Writers {
+pub(super) fn new_writers(alloc: Global) -> Writers {
     Writers {
         further: writer(alloc, NEVER),
         head: writer(alloc, NEVER),
@@ -90,7 +92,7 @@ fn new_writers(alloc: Global) -> Writers {
     }
 }
 
-fn add(
+pub(super) fn add(
     alloc: Global,
     mut changes: &[u8],
     head: &Head<'_>,

@@ -1,10 +1,10 @@
 //! The worked pack of docs/FORMATS.md, from levels in memory that may refuse each call in turn.
 
-use super::kept_runs::KeptRuns;
 use super::small_pack::PACK;
 use external_sort::{RunStore, Sorter, StoreFault};
 use osm_keys::Edition;
 use pack_assembly::{AssemblyFault, BuiltTrees, write_pack_of_levels};
+use pack_devices::KeptRuns;
 use std::alloc::{AllocError, Global};
 use std::test::Fail;
 use tree_node::{Digest, Tree};

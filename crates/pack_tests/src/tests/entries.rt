@@ -4,39 +4,15 @@ ghost use Rattle.std.specs.Prelude.{◌≡◌, ◌≤◌, ◌<◌, ◌+◌, ◌+
 ghost use Rattle.tree_node.specs.Nodes.{Binding};
 ghost use Rattle.tree_node.specs.declared.tree.Tree.TheVariants.{Objects, Tags, Cells, Backs};
 
-use super::kept_runs::KeptRuns;
 use entry_sort::{EntryFault, EntrySink, EntrySorter, SinkFault, sort_entries};
-use external_sort::{SortFault, StoreFault, StoreMaker};
+use external_sort::SortFault;
 use opl_codec::{OplCause, read_set};
 use osm_index::entries_of;
 use osm_model::ObjectSet;
+use pack_devices::KeptRunsMaker;
 use std::alloc::{AllocError, Global};
 use std::test::Fail;
 use tree_node::{Item, Tree};
-
-/// Makes stores, of which one refuses each call after so many; of that number on none are made where it allows no call.
-#[derive(Drop)]
-struct Maker {
-    alloc: Global,
-    made: usize,
-    refusing: usize,
-    calls: u64,
-}
-
-impl StoreMaker<KeptRuns> for Maker {
-    fn make_store(&mut self) -> Result<KeptRuns, StoreFault> {
-        let calls = if self.made == self.refusing {
-            self.calls
-        } else {
-            u64::MAX
-        };
-        if calls == 0 {
-            return Err(StoreFault);
-        }
-        self.made = self.made.wrapping_add(1);
-        Ok(KeptRuns::new(self.alloc, calls - 1))
-    }
-}
 
 /// An entry that was taken.
 #[derive(Drop)]
@@ -173,12 +149,7 @@ fn sort(
     calls: u64,
     sink_calls: u64,
 ) -> Result<Taken, Ended> {
-    let mut maker = Maker {
-        alloc,
-        made: 0,
-        refusing,
-        calls,
-    };
+    let mut maker = KeptRunsMaker::new(alloc, refusing, calls);
     let mut sorter = match EntrySorter::new(alloc, &mut maker, memory) {
         Ok(sorter) => sorter,
         Err(_) => return Err(Ended::Sort(SortFault::Device)),
@@ -313,12 +284,7 @@ fn sort_file(
     refusing: usize,
     calls: u64,
 ) -> Result<Taken, EntryFault> {
-    let mut maker = Maker {
-        alloc,
-        made: 0,
-        refusing,
-        calls,
-    };
+    let mut maker = KeptRunsMaker::new(alloc, refusing, calls);
     let mut taken = Taken::new(alloc, 1000);
     let mut reader = text;
     match sort_entries(alloc, &mut reader, &mut maker, memory, &mut taken) {

@@ -1,7 +1,7 @@
 //! Records sorted through a store in memory, which may refuse each call in turn.
 
-use super::kept_runs::KeptRuns;
 use external_sort::{SortFault, Sorter};
+use pack_devices::KeptRuns;
 use std::alloc::{AllocError, Global};
 use std::process::Abort;
 use std::test::Fail;

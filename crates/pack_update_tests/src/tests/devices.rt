@@ -17,7 +17,7 @@ const CHANGED_TAGS: &str = "w10 v2 Thighway=secondary Nn1,n2,n1\n";
 
 /// Bytes of which one call fails, from 1; none does where it is 0.
 #[derive(Drop)]
-struct Frail<'a> {
+pub(super) struct Frail<'a> {
     bytes: &'a [u8],
     fails_at: u32,
     calls: u32,
@@ -25,7 +25,7 @@ struct Frail<'a> {
 
 impl<'a> Frail<'a> {
     /// These bytes, of which this call fails.
-    fn new(bytes: &'a [u8], fails_at: u32) -> Frail<'a> {
+    pub(super) fn new(bytes: &'a [u8], fails_at: u32) -> Frail<'a> {
         Frail {
             bytes,
             fails_at,

@@ -17,7 +17,7 @@ fn append_node(alloc: Global, id: u32, text: &mut String) -> Result<(), Fail> {
 }
 
 /// The nodes with the ids from the first one on, up to the last one.
-fn nodes(alloc: Global, first: u32, last: u32) -> Result<String, Fail> {
+pub(super) fn nodes(alloc: Global, first: u32, last: u32) -> Result<String, Fail> {
     let mut text = String::new(alloc);
     for id in first..last {
         append_node(alloc, id, &mut text)?;
@@ -26,7 +26,7 @@ fn nodes(alloc: Global, first: u32, last: u32) -> Result<String, Fail> {
 }
 
 /// The nodes with these ids are deleted.
-fn deletes(alloc: Global, first: u32, last: u32) -> Result<String, Fail> {
+pub(super) fn deletes(alloc: Global, first: u32, last: u32) -> Result<String, Fail> {
     let mut text = String::new(alloc);
     for id in first..last {
         let line = format!(in alloc; "n{id} dD\n")?;

@@ -101,7 +101,7 @@ impl Published {
 }
 
 /// The pack of a snapshot.
-fn pack_of(alloc: Global, snapshot: &Snapshot) -> Result<Vec<u8>, Fail> {
+pub(super) fn pack_of(alloc: Global, snapshot: &Snapshot) -> Result<Vec<u8>, Fail> {
     let mut pack = Vec::with_capacity(alloc, FILE_LIMIT)?;
     let mut shelf = snapshot.stock().shelf(alloc);
     write_pack(alloc, &mut shelf, snapshot.root(), &mut pack)?;
@@ -114,7 +114,7 @@ pub(super) fn changes_of(alloc: Global, text: &str) -> Result<Vec<Change>, Fail>
 }
 
 /// Files, read as one.
-fn joined(alloc: Global, files: &[Vec<u8>]) -> Result<JoinedFiles<&[u8]>, AllocError> {
+pub(super) fn joined(alloc: Global, files: &[Vec<u8>]) -> Result<JoinedFiles<&[u8]>, AllocError> {
     let mut contents = Vec::new(alloc);
     for file in files {
         contents.push(file.as_slice())?;

@@ -62,7 +62,7 @@ fn refusal(
 }
 
 /// Where the record of a top stands in the small pack.
-fn place_of_top(alloc: Global, published: &Published) -> Result<Place, Fail> {
+pub(super) fn place_of_top(alloc: Global, published: &Published) -> Result<Place, Fail> {
     let mut source = PackSource::open(alloc, published.pack())?;
     source.read_node(published.snapshot.root(), 1000, &mut Vec::new(alloc))?;
     let place = source.place(&published.snapshot.manifest().tops[0]);
@@ -138,13 +138,13 @@ fn swapped(alloc: Global, manifest: &Manifest) -> Result<NewNode, Fail> {
 
 /// A further file, and its header.
 #[derive(Drop)]
-struct Further {
-    file: Vec<u8>,
-    header: Header,
+pub(super) struct Further {
+    pub(super) file: Vec<u8>,
+    pub(super) header: Header,
 }
 
 /// The further file beside the small pack whose only node is that manifest.
-fn swapped_file(alloc: Global, published: &Published) -> Result<Further, Fail> {
+pub(super) fn swapped_file(alloc: Global, published: &Published) -> Result<Further, Fail> {
     let nodes = vec![in alloc; swapped(alloc, published.snapshot.manifest())?]?;
     let root = nodes.first().ok_or("no node")?.digest;
     let mut known = PackSource::open(alloc, published.pack())?;

@@ -9,7 +9,8 @@ pub returns : goal.returns
 returns c =
     let begun : App = with_rule (with_rule (new_app pack_name) (wanted (codes "FILE"))) (wanted (codes "PACK")) in
     let with_add = ap (with_rule begun) c.add_option.ensures in
-    let with_memory = ap₂ with_rule with_add c.memory_option.ensures in
+    let with_compact = ap₂ with_rule with_add c.compact_option.ensures in
+    let with_memory = ap₂ with_rule with_compact c.memory_option.ensures in
     let with_temp = ap₂ with_rule with_memory c.temp_option.ensures in
     let with_edition = ap₂ with_rule with_temp c.edition_option.ensures in
     let told = ap₂ with_rule with_edition c.sequence_option.ensures in

@@ -1,6 +1,8 @@
-use Rattle.std.proofs.Common.{◌∙◌, ◌≡◌, ℕ, List, ap, arith, inl, inr, length, subst, sym}
+use Rattle.std.proofs.Common.{◌∙◌, ◌≡◌, ℕ, List, arith, inl, inr, length, subst, sym}
 use Rattle.opl_codec.specs.declared.change.Change.{Change}
+use Rattle.node_pack.specs.declared.place.Place.{Place}
 use Rattle.pack_update.specs.Faults.{IsAddReason}
+use Rattle.pack_update.specs.Files.{AreFilesOf}
 use Rattle.osm_pack_changes.specs.Faults.{fault_of_added}
 use Rattle.osm_pack_changes.specs.internal.Reading.{RefusesRead}
 use Rattle.osm_pack_changes.proofs.AddLemmas.{beside, not_both, other_root}
@@ -36,7 +38,7 @@ returns-clause-safe g c = λ p is.
 pub returns-clause-whole : goal.returns-clause-whole
 returns-clause-whole g c = λ p contents is reads had count.
     let is_number : c.len-number.result ≡ length c.args.head.now.files.items = omega (arith, c.len-number.ensures, c.args.head.now.files.ok.0) in
-    elim (c.in_ok-added.ensures.whole p contents is reads had (count ∙ sym is_number)) [
+    elim (c.in_ok-added.ensures.whole p contents is reads (subst (λ (place : Place). AreFilesOf contents p place) (sym c.manifest_place.ensures) had) (count ∙ sym is_number)) [
       | inl made ↦ inl (made.0, beside p c.args.read.now c.deref.result.now c.deref.ensures.value c.in_ok-added.added c.is_as_announced.result c.is_as_announced.ensures c.if-not-is_as_announced.false made.0 made.1 made.2, made.2, made.3)
       | inr clash ↦ inr clash
     ]

@@ -1,7 +1,7 @@
 use Rattle.std.proofs.Common.{◌∙◌, ap, sym, subst, Err}
 use Rattle.pack_build.specs.Faults.{fault_of_assembly}
 use Rattle.pack_build.specs.declared.fault.BuildFault.{BuildFault}
-use Rattle.pack_build.specs.internal.Trees.{IsUnpacked}
+use Rattle.pack_build.specs.Trees.{IsUnpacked}
 use Rattle.pack_build.proofs.BuildLemmas.{are_levels, unpacked}
 use Rattle.pack_build.proofs.build.write_trees.Goals as goal
 

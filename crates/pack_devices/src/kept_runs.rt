@@ -1,14 +1,14 @@
-//! A store in memory, which may refuse each call in turn.
+//! Stores in memory, which may refuse each call in turn.
 
 ghost use Rattle.std.specs.Prelude.{◌≡◌, ◌≤◌, ◌<◌, ◌+◌, ◌++◌, ◌∷◌, [], IsOk, OnOk, drop, false, length, map, take, true};
 ghost use Rattle.external_sort.specs.Runs.{run_at};
 
-use external_sort::{RunStore, StoreFault};
+use external_sort::{RunStore, StoreFault, StoreMaker};
 use std::alloc::Global;
 
 /// Keeps runs in memory, and refuses each call after so many.
 #[derive(Drop)]
-pub(super) struct KeptRuns {
+pub struct KeptRuns {
     alloc: Global,
     runs: Vec<Vec<u8>>,
     hand: Vec<u8>,
@@ -16,7 +16,8 @@ pub(super) struct KeptRuns {
 }
 
 impl KeptRuns {
-    pub(super) fn new(alloc: Global, calls: u64) -> KeptRuns
+    /// A store without runs.
+    pub fn new(alloc: Global, calls: u64) -> KeptRuns
         ensures runs { result.runs.items ≡ [] }
         ensures hand { result.hand.items ≡ [] }
     {
@@ -76,5 +77,41 @@ impl RunStore for KeptRuns {
         }
         into.copy_from_slice(&bytes[start..start + into.len()]);
         Ok(())
+    }
+}
+
+/// Makes stores, of which one refuses each call after so many; from that number on none are made where it allows no call.
+#[derive(Drop)]
+pub struct KeptRunsMaker {
+    alloc: Global,
+    made: usize,
+    refusing: usize,
+    calls: u64,
+}
+
+impl KeptRunsMaker {
+    /// The store with this number, from 0 on, refuses to be made, or each call after so many less one.
+    pub fn new(alloc: Global, refusing: usize, calls: u64) -> KeptRunsMaker {
+        KeptRunsMaker {
+            alloc,
+            made: 0,
+            refusing,
+            calls,
+        }
+    }
+}
+
+impl StoreMaker<KeptRuns> for KeptRunsMaker {
+    fn make_store(&mut self) -> Result<KeptRuns, StoreFault> {
+        let calls = if self.made == self.refusing {
+            self.calls
+        } else {
+            u64::MAX
+        };
+        if calls == 0 {
+            return Err(StoreFault);
+        }
+        self.made = self.made.wrapping_add(1);
+        Ok(KeptRuns::new(self.alloc, calls - 1))
     }
 }

@@ -1,12 +1,9 @@
--- Trees that were built of a publication, and why their pack isn't written.
+-- Trees of a publication whose nodes were written, and why their pack isn't.
 -- Source: this project.
 use Rattle.std.specs.Prelude.{◌≡◌, ⊤, ◌-◌, ℕ, List, Option, length, map, slice_index}
-use Rattle.osm_model.specs.Sets.{IsObjectSet}
-use Rattle.osm_keys.specs.Entries.{AreEntriesOf}
-use Rattle.osm_keys.specs.declared.edition.Edition.{Edition}
 use Rattle.osm_keys.specs.Publications.{IsNodeIn, IsPublication, Publication, root_of, top_in, tree_in}
 use Rattle.tree_node.specs.NodeRefs.{number_of}
-use Rattle.tree_node.specs.Nodes.{Binding, spelling}
+use Rattle.tree_node.specs.Nodes.{spelling}
 use Rattle.tree_node.specs.Outcomes.{Clash as HasClash}
 use Rattle.tree_node.specs.Trees.{level_at}
 use Rattle.tree_node.specs.declared.digest.Digest.{Digest}
@@ -24,13 +21,6 @@ pub record AreTreesOf {S : Type 0} (p : Publication) (trees : FinishedTrees S) :
   pub tops : (tree : Tree) → top_among trees.tops tree ≡ top_in p tree
   pub heights : (tree : Tree) → slice_index trees.heights (number_of tree - 1) ≡ length (tree_in p tree)
   pub levels : (tree : Tree) (level : ℕ) → level_of_tree trees.levels tree level ≡ unread_level (map spelling (level_at (tree_in p tree) level))
-
--- the publication has a set of objects in this edition, and its entries are those that were taken
-pub record IsSorted (p : Publication) (edition : Edition) (taken : Tree → List Binding) : Type 0 where
-  pub set : IsObjectSet p.objects
-  pub lists : (tree : Tree) → AreEntriesOf p.objects tree (p.entries tree)
-  pub edition_is : p.edition ≡ edition
-  pub entries_are : (tree : Tree) → taken tree ≡ p.entries tree
 
 -- it is a publication, this is its root, and its pack was written
 abbrev pub IsPackedAs : Publication → Option (List ℕ) → Option (List ℕ) → Digest → Type 0

@@ -1,0 +1,6 @@
+mod BelowLemmas
+mod OutcomeLemmas
+mod TakenLemmas
+mod ReadLemmas
+mod TopLemmas
+mod UnderLemmas

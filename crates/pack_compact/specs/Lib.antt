@@ -1,0 +1,3 @@
+pub mod Compacting
+pub mod Faults
+pub mod internal
