@@ -1,8 +1,8 @@
-// Answers queries from packs on servers. The proved library says which parts of a pack it needs and hasn't; they are fetched
-// here, and it is asked again, until it has found the answer. What was fetched is kept for later queries.
+// Answers queries from packs on servers, and from the files of heads there. The proved library says which parts of them it needs and
+// hasn't; they are fetched here, and it is asked again, until it has found the answer. What was fetched is kept for later queries.
 
+import { RemoteFiles, RemotePack } from "./heads.js";
 import { Instance, Refused, work } from "./instance.js";
-import { RemoteFile } from "./ranges.js";
 
 const STATUSES = ["yes", "no", "no memory", "bad root", "bad form", "too short", "more", "bad pieces"];
 
@@ -13,49 +13,53 @@ const MOST = 2n ** 30n; // bytes of nodes for a query
 const KEPT = 67_108_864; // bytes of a pack between queries
 const UNREADABLE = 1; // the reason of a query that doesn't read
 
+/** What is kept: `{url, pack}`. */
 let kept = null;
 
 /**
- * Finds the answer to a query in the pack at an address: `root` has 32 bytes, `form` is a number of FORMS, `guess` is how many
- * bytes the document may have. Gives `{status, reason, cause, place, document}` as the library tells it, and what it took.
- * Where parts from earlier queries don't fit any more, as after the pack was replaced, all is fetched anew.
+ * Finds the answer to a query in the pack at an address, or in the files of a head there: `root` has 32 bytes, `form` is a number of
+ * FORMS, `guess` is how many bytes the document may have. Gives `{status, reason, cause, place, document}` as the library tells it,
+ * and what it took. Where parts from earlier queries don't fit any more, as after the pack was replaced, all is fetched anew.
  */
 async function answer(module, asked, signal, say) {
   const begun = performance.now();
   const isKept = kept?.url === asked.url;
-  let file = isKept ? kept : await RemoteFile.open(asked.url, "default", signal);
-  const before = isKept ? [file.requests, file.received] : [0, 0];
-  let found = await answered(module, asked, file, signal, say).catch((error) => {
+  const open = (cache) => (asked.isHead ? RemoteFiles : RemotePack).open(asked.url, cache, signal);
+  let pack = isKept ? kept.pack : await open("default");
+  let before = isKept ? pack.counts : { requests: 0, received: 0 };
+  let found = await answered(module, asked, pack, signal, say).catch((error) => {
     if (!isKept || signal.aborted || !(error instanceof Refused)) throw error;
     return null;
   });
   if (found === null || (isKept && found.status === "no" && found.reason !== UNREADABLE)) {
-    file = await RemoteFile.open(asked.url, "reload", signal);
-    before.fill(0);
-    found = await answered(module, asked, file, signal, say);
+    pack = await open("reload");
+    before = { requests: 0, received: 0 };
+    found = await answered(module, asked, pack, signal, say);
   }
-  kept = file.length <= KEPT ? file : null;
-  const took = { requests: file.requests - before[0], received: file.received - before[1] };
-  return { ...found, ...took, size: file.size, milliseconds: performance.now() - begun };
+  const { length, requests, received, total } = pack.counts;
+  kept = length <= KEPT ? { url: asked.url, pack } : null;
+  const took = { requests: requests - before.requests, received: received - before.received };
+  return { ...found, ...took, size: total, milliseconds: performance.now() - begun };
 }
 
 /** Asks the library, fetches what it misses, and asks it again, until it misses nothing. */
-async function answered(module, asked, file, signal, say) {
+async function answered(module, asked, pack, signal, say) {
   for (;;) {
-    const found = judged(module, asked, file);
+    const found = judged(module, asked, pack);
     if (found.status !== "more") return found;
-    await file.bring(spansIn(found.document), signal, ({ requests, received }) => say({ requests, received }));
+    await pack.bring(spansIn(found.document), signal, ({ requests, received }) => say({ requests, received }));
   }
 }
 
 /** What the library says of the parts that are here. */
-function judged(module, { query, root, form, guess }, { size, parts }) {
+function judged(module, { query, root, form, guess }, pack) {
   const instance = new Instance(module);
-  const given = [query, root].flatMap((bytes) => instance.given(bytes));
+  const question = [form, instance.given(query), instance.given(root), MOST];
+  const parts = pack.pieces;
   const pieces = [instance.given(tableOf(parts)), instance.givenAll(parts.map(({ bytes }) => bytes))].flat();
   const told = instance.room(TOLD_BYTES);
   const { status, bytes } = instance.handedOver(guess, STATUSES.indexOf("too short"), (room, length, len) =>
-    instance.wasm.osm_query_answer(form, ...given, MOST, BigInt(size), ...pieces, room, length, told, len),
+    pack.ask(instance, question, pieces, [room, length, told, len]),
   );
   const numbers = instance.numbers(told, TOLD_BYTES);
   return {
@@ -72,7 +76,7 @@ function tableOf(parts) {
   const table = new Uint8Array(parts.length * SPAN_BYTES);
   const numbers = new DataView(table.buffer);
   parts.forEach(({ start, bytes }, at) => {
-    numbers.setBigUint64(at * SPAN_BYTES, BigInt(start), true);
+    numbers.setBigUint64(at * SPAN_BYTES, start, true);
     numbers.setBigUint64(at * SPAN_BYTES + 8, BigInt(bytes.length), true);
   });
   return table;
@@ -82,8 +86,8 @@ function tableOf(parts) {
 function spansIn(bytes) {
   const numbers = new DataView(bytes.buffer, bytes.byteOffset, bytes.length);
   return Array.from({ length: bytes.length / SPAN_BYTES }, (_, at) => {
-    const start = Number(numbers.getBigUint64(at * SPAN_BYTES, true));
-    return { start, end: start + Number(numbers.getBigUint64(at * SPAN_BYTES + 8, true)) };
+    const start = numbers.getBigUint64(at * SPAN_BYTES, true);
+    return { start, end: start + numbers.getBigUint64(at * SPAN_BYTES + 8, true) };
   });
 }
 

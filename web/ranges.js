@@ -49,9 +49,11 @@ export class RemoteFile {
   received = 0;
   #cache;
 
-  constructor(url, cache) {
+  /** Nothing of it is here yet. `size` is how long it is, as far as that is known. */
+  constructor(url, cache, size = 0) {
     this.url = url;
     this.#cache = cache;
+    this.size = size;
   }
 
   /** Fetches the front of the file, and learns how long it is. `cache` says how the browser's cache is used, as in `fetch`. */
@@ -61,6 +63,12 @@ export class RemoteFile {
     file.size = size ?? sizeIn(bytes);
     file.parts = united([{ start: 0, bytes }]);
     return file;
+  }
+
+  /** Fetches the front of a file whose size is known. */
+  async bringFront(signal) {
+    const end = Math.min(FRONT, this.size);
+    if (end > 0) await this.bring([{ start: 0, end }], signal, () => {});
   }
 
   /** How many bytes of the file are here. */

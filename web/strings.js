@@ -7,7 +7,7 @@ export const TEXTS = {
   subtitle: "This page asks a mirror and checks its answer by itself. Only the root has to be right.",
   askForm: "Query",
   mirror: "Mirror",
-  mirrorHelp: "Its address, as https://mirror.example, or that of a pack, as https://files.example/town.pack. Neither is trusted.",
+  mirrorHelp: "Its address, as https://mirror.example, or that of a pack or its head, as https://files.example/town.pack. None is trusted.",
   root: "Root",
   rootHelp: "64 digits that the publisher of the data tells, not the mirror.",
   manageRoots: "Roots…",
@@ -184,6 +184,8 @@ export const SAY = {
   notFound: (meaning) => `No answer: ${meaning}.`,
   packUnreachable: (url) =>
     `${url} can't be read. Is the address right, does the server run, and does it let pages from elsewhere read (Access-Control-Allow-Origin)?`,
+  endsBefore: (url) => `${url} ends before what the head says of it, or another file. Take another copy.`,
+  noHead: (url, line) => `${url} isn't the head of a pack: its line ${line} is wrong.`,
   noPack: (url, status) => `${url} isn't there: the server says ${status}.`,
   packMoved: (url) => `The server refers from ${url} to another place, which isn't followed.`,
   noRanges: (url) => `The server of ${url} doesn't give parts of files, and the whole is too large for this page.`,

@@ -1,5 +1,5 @@
-"""The page of web/ over packs, in a real browser, headless Chromium: it finds answers by itself, from servers that give ranges
-of files, from those that don't, and from those that lie.
+"""The page of web/ over packs and heads, in a real browser, headless Chromium: it finds answers by itself, from servers that give
+ranges of files, from those that don't, and from those that lie.
 
 What it finds is compared with what `osm_mirror query` finds in the same file. Without Chromium all is skipped, and said so.
 """
@@ -240,6 +240,67 @@ def check_town(tally, page, serving, base, folder, root):
     pack.write_bytes(older)
 
 
+def added(changes, pack, folder):
+    """Adds changes to a pack, and gives the new root."""
+    (folder / "changes.opl").write_bytes(changes)
+    ended = run([PROGRAM, "pack", "--add", folder / "changes.opl", pack])
+    assert ended.status == 0, ended
+    return ended.stdout.decode().strip()
+
+
+def check_heads(tally, page, base, folder, town):
+    """In the files of a head the page finds what the program finds there, before and after further changes, and reads little of them;
+    what is wrong with a head or a file is told in words, and makes no answer."""
+    pack, head = folder / "grown.pack", folder / "grown.pack.head"
+    made_pack(OBJECTS, pack)
+    place = f"{base}/ranges/{head.name}"
+    for changes in (b"n9 v1 dV Tname=C x1 y2\nn2 v2 dD\nw7 v2 dV Thighway=path Nn1,n9\n", b"n9 v2 dV Tname=D x1 y2\n"):
+        root = added(changes, pack, folder)
+        keep_root(page, f"grown {len(changes)}", root)
+        for query in ("nwr;out meta;", "way(7);(._;>;);out;", "node(1,0,3,3);out;", "node(2);out;"):
+            state, verdict, details = ask(page, place, query)
+            wanted = native(root, head, query)
+            shown = text_of(page, "opl").encode()
+            tally.check(f"from a head: {query}", state == "yes" and wanted.status == 0 and shown == wanted.stdout, state, verdict, details, wanted)
+    for how in ("hidden", "whole"):
+        state, verdict, _ = ask(page, f"{base}/{how}/{head.name}?version=1", "nwr;out meta;")
+        tally.check(f"a head on a server: {how}", state == "yes", state, verdict)
+    whole, further = head.read_bytes(), pack.with_name("grown.pack.2")
+    for name, content, want in [
+        ("empty", b"", "line 1 is wrong"), ("pack", pack.read_bytes(), "line 1 is wrong"), ("root", whole.replace(b"root ", b"root x"), "line 2 is wrong"),
+        ("zero", whole.replace(b"sequence ", b"sequence 0"), "line 3 is wrong"), ("far", whole.replace(b"manifest ", b"manifest 99999999999999999999"), "line 4 is wrong"),
+        ("folder", whole.replace(b"grown.pack.1", b"../grown.pack.1"), "line 6 is wrong"), ("cut", whole[:-1], "line 8 is wrong"), ("more", whole + b"\n", "line 8 is wrong"),
+        ("missing", whole.replace(b"grown.pack.2\n", b"grown.pack.9\n"), "404"), ("beyond", whole.replace(b"manifest 5", b"manifest 6"), "ends before what the head says"),
+        ("shorter", whole.replace(b"file 855 ", b"file 854 "), "has changed"),
+    ]:
+        (folder / f"{name}.head").write_bytes(content)
+        state, verdict, _ = ask(page, f"{base}/ranges/{name}.head", "nwr;out;")
+        tally.check(f"a head that is wrong: {name}", state == "fault" and want in verdict and not is_shown(page, "answer"), state, verdict)
+    keep_root(page, "four objects", ROOT)
+    state, verdict, _ = ask(page, place, "nwr;out;")
+    tally.check("a head of another root", state == "no" and "of another root than yours" in verdict, state, verdict)
+    keep_root(page, "grown", root)
+    kept, wanted = further.read_bytes(), native(root, head, "nwr;out;").stdout.decode()
+    states = set()
+    for at in range(0, len(kept), max(1, len(kept) // 30)):
+        further.write_bytes(kept[:at] + bytes([kept[at] ^ 0x11]) + kept[at + 1 :])
+        (folder / f"turned-{at}.head").write_bytes(whole)
+        state, verdict, _ = ask(page, f"{base}/ranges/turned-{at}.head", "nwr;out;")
+        states.add(state)
+        is_right = text_of(page, "opl") == wanted if state == "yes" else state in ("no", "fault") and not is_shown(page, "answer")
+        tally.check(f"byte {at} of a further file turned", is_right, state, verdict)
+    further.write_bytes(kept)
+    tally.check("some are refused", "no" in states, states)
+    moved = added(b"n4998 v9 dV Tname=Weg x13 y52\n", folder / "town.pack", folder)
+    keep_root(page, "moved", moved)
+    for query in ("node(4998);out;", 'nwr["name"="Weg"];out;'):
+        state, verdict, details = ask(page, f"{base}/ranges/town.pack.head", query, 120)
+        wanted = native(moved, folder / "town.pack.head", query)
+        tally.check(f"from a larger head: {query}", state == "yes" and text_of(page, "opl").encode() == wanted.stdout, state, verdict, details)
+        print(f"{query}: {verdict}; {details}")
+    keep_root(page, "extract", town)
+
+
 def check_stop(tally, page, base):
     """A query is given up at once, and the next one is answered."""
     write_query(page, "nwr;out;")
@@ -285,6 +346,7 @@ def check_nginx(tally, page, site, room):
     folder.chmod(0o755)
     room.chmod(0o755)
     made_pack(OBJECTS, folder / "packs/four.pack")
+    root = added(b"n9 v1 dV Tname=C x1 y2\n", folder / "packs/four.pack", folder)
     with tempfile.TemporaryDirectory() as free:
         port = free_port()
         block = block.replace("listen 80;", f"listen 127.0.0.1:{port};").replace("/var/www/packs", str(folder / "packs"))
@@ -297,6 +359,9 @@ def check_nginx(tally, page, site, room):
             keep_root(page, "four objects", ROOT)
             state, verdict, _ = ask(page, f"http://127.0.0.1:{port}/four.pack", "nwr;out meta;")
             tally.check("behind nginx", state == "yes", state, verdict)
+            keep_root(page, "with a node more", root)
+            state, verdict, _ = ask(page, f"http://127.0.0.1:{port}/four.pack.head", "node(9);out;")
+            tally.check("a head behind nginx", state == "yes" and "n9" in text_of(page, "opl"), state, verdict)
         finally:
             running.terminate()
             running.wait()
@@ -335,6 +400,7 @@ def check_all(tally, path):
             check_refused(tally, page, base, pack, folder)
             check_spoiled(tally, page, base, pack, folder)
             check_town(tally, page, serving, base, folder, root)
+            check_heads(tally, page, base, folder, root)
             keep_root(page, "extract", root)
             check_stop(tally, page, base)
             check_link(tally, page, site, f"{base}/ranges/{pack.name}")

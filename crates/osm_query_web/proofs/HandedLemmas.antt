@@ -1,5 +1,5 @@
 -- What the status says of an outcome that was handed over.
-use Rattle.std.proofs.Common.{◌≡◌, ◌≢◌, ◌≤◌, ◌⊎◌, inl, inr, ℕ, List, arith, drop, length, refl, subst, sym, take}
+use Rattle.std.proofs.Common.{◌≡◌, ◌≢◌, ◌≤◌, ◌⊎◌, inl, inr, ℕ, List, Option, arith, drop, length, refl, subst, sym, take}
 use Rattle.std.proofs.lemmas.Bool.{cases_lt}
 use Rattle.std.proofs.lemmas.List.{drop_at, take_at}
 use Rattle.ql_syntax.specs.Queries.{HasFault}
@@ -9,12 +9,13 @@ use Rattle.osm_forms.specs.declared.form.Form.TheVariants as forms
 use Rattle.osm_keys.specs.Publications.{Publication}
 use Rattle.osm_packs.specs.declared.not_answered.NotAnswered.{NotAnswered}
 use Rattle.osm_packs.specs.declared.not_answered.NotAnswered.TheVariants as faults
-use Rattle.osm_query_web.proofs.ExplainLemmas.{its_fault, unread}
+use Rattle.osm_query_web.proofs.ExplainLemmas.{its_fault_by, unread}
 use Rattle.osm_query_web.specs.Answers.{IsAnswerOf, IsTableOfWanted, form_number}
 use Rattle.osm_query_web.specs.ToldFaults.{told_of}
 use Rattle.osm_query_web.specs.declared.outcome.Outcome.{Outcome}
 use Rattle.osm_query_web.specs.declared.outcome.Outcome.TheVariants.{Document, Missing, NoMemory, Refused}
 use Rattle.osm_query_web.specs.declared.span.Span.{Span}
+use Rattle.osm_query_web.specs.declared.stated.Stated.{Stated}
 use Rattle.osm_query_web.specs.declared.told.TheConstants.{MORE, NO, NO_MEMORY, TOO_SHORT, YES}
 use Rattle.osm_query_web.specs.internal.Outcomes.{Handed, IfDocument, IfMissing, IfRefused, IsExplained, IsHanded, IsHandedOver}
 
@@ -121,16 +122,16 @@ module _ (found : Handed) where
   needed P Q NoMemory alone said has lists = let is = alone.status_is in absurd (cc)
 
   -- a query with a fault is refused for it
-  module _ (p : Publication) (form : Form) (size : ℕ) (spans : List Span) (R : List ℕ → Type 0) (query root : List ℕ) (fault : QlFault) (has : HasFault query fault) where
+  module _ (p : Publication) (form : Form) (size : ℕ) (spans : List Span) (stated : Option Stated) (R : List ℕ → Type 0) (query root : List ℕ) (fault : QlFault) (has : HasFault query fault) where
     no_answer : (document : List ℕ) → ¬ IsAnswerOf p form query document
     no_answer document (inl right) = unread query fault has (right.is_text.statements, right.is_text.reads)
     no_answer document (inr clash) = unread query fault has (clash.statements, clash.reads)
 
-    pub unreadable : (outcome : Outcome) → IsHanded outcome found → IfDocument outcome (IsAnswerOf p form query) → IfMissing outcome (IsTableOfWanted size spans query) → IfRefused outcome (IsExplained R query root)
+    pub unreadable : (outcome : Outcome) → IsHanded outcome found → IfDocument outcome (IsAnswerOf p form query) → IfMissing outcome (IsTableOfWanted size spans query) → IfRefused outcome (IsExplained stated R query root)
         → (found.status ≡ NO_MEMORY) ⊎ ((found.status ≡ NO) × (found.told ≡ told_of (faults.Query fault)))
     unreadable (Document document) over right lists explained = absurd (no_answer document.items right)
     unreadable (Missing table) over right lists explained = absurd (unread query fault has lists.readable)
     unreadable (Refused told) alone right lists explained =
-        let is = its_fault R query root fault has told explained.not_memory explained.explained in
+        let is = its_fault_by stated R query root fault has told explained.not_memory explained.explained in
         inr (alone.status_is, subst (λ (f : NotAnswered). found.told ≡ told_of f) is alone.told_is)
     unreadable NoMemory alone right lists explained = inl alone.status_is

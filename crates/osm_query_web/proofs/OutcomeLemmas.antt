@@ -1,17 +1,17 @@
 -- What comes of a fault.
 use Rattle.std.proofs.Common.{◌≡◌, ◌≢◌, ◌⊎◌, inl, inr, ℕ, List, refl, subst, sym}
-use Rattle.std.specs.Prelude.{⊤}
-use Rattle.osm_check.specs.Verdicts.{IsReadable}
-use Rattle.osm_packs.specs.Querying.{Explains}
+use Rattle.std.specs.Prelude.{Option, ⊤}
 use Rattle.osm_packs.specs.declared.not_answered.NotAnswered.{NotAnswered}
 use Rattle.osm_packs.specs.declared.not_answered.NotAnswered.TheVariants as faults
 use Rattle.node_pack.specs.declared.fault.PackFault.TheVariants as packs
 use Rattle.outside_shelf.specs.declared.refused.Refused.TheVariants as reasons
+use Rattle.osm_query_web.proofs.ExplainLemmas.{device_readable}
 use Rattle.osm_query_web.specs.Answers.{IsTableOfWanted}
 use Rattle.osm_query_web.specs.declared.outcome.Outcome.{Outcome}
 use Rattle.osm_query_web.specs.declared.outcome.Outcome.TheVariants.{Document, Missing, NoMemory, Refused}
 use Rattle.osm_query_web.specs.declared.span.Span.{Span}
-use Rattle.osm_query_web.specs.internal.Outcomes.{ComesOf, IfDocument, IfMissing, IfRefused, IsAfterRead, IsExplained, ListsWanted}
+use Rattle.osm_query_web.specs.declared.stated.Stated.{Stated}
+use Rattle.osm_query_web.specs.internal.Outcomes.{ComesOf, ExplainsBy, IfDocument, IfMissing, IfRefused, IsAfterRead, IsExplained, ListsWanted}
 
 -- it is no document; what is missing comes of a read that failed, and what is refused is the fault, which isn't out of memory
 abbrev IsOf : (size : ℕ) (spans : List Span) → NotAnswered → Outcome → Type 0
@@ -63,15 +63,11 @@ module _ (size : ℕ) (spans : List Span) where
   pub no_document : (P : List ℕ → Type 0) (fault : NotAnswered) (outcome : Outcome) → ComesOf size spans fault outcome → IfDocument outcome P
   no_document P fault outcome comes = no_document_of P fault outcome (of fault outcome comes)
 
-  module _ (R : List ℕ → Type 0) (query root : List ℕ) (fault : NotAnswered) (explained : Explains R query root fault) where
+  module _ (stated : Option Stated) (R : List ℕ → Type 0) (query root : List ℕ) (fault : NotAnswered) (explained : ExplainsBy stated R query root fault) where
     -- what is missing is wanted for a query that reads
-    device_readable : (fault ≡ faults.Pack packs.Device) ⊎ (fault ≡ faults.Node reasons.Device) → IsReadable query
-    device_readable (inl is) = (subst (Explains R query root) is explained).0
-    device_readable (inr is) = (subst (Explains R query root) is explained).0
-
     missing_of : (outcome : Outcome) → IsOf size spans fault outcome → IfMissing outcome (IsTableOfWanted size spans query)
     missing_of (Document document) is = tt
-    missing_of (Missing table) is = record { readable = device_readable is.1; wanted = is.0.wanted; table_is = is.0.table_is; are_wanted = is.0.are_wanted }
+    missing_of (Missing table) is = record { readable = device_readable stated R query root fault is.1 explained; wanted = is.0.wanted; table_is = is.0.table_is; are_wanted = is.0.are_wanted }
     missing_of (Refused told) is = tt
     missing_of NoMemory is = tt
 
@@ -79,11 +75,11 @@ module _ (size : ℕ) (spans : List Span) where
     missing outcome comes = missing_of outcome (of fault outcome comes)
 
     -- what is refused is explained
-    explained_of : (outcome : Outcome) → IsOf size spans fault outcome → IfRefused outcome (IsExplained R query root)
+    explained_of : (outcome : Outcome) → IsOf size spans fault outcome → IfRefused outcome (IsExplained stated R query root)
     explained_of (Document document) is = tt
     explained_of (Missing table) is = tt
-    explained_of (Refused told) is = subst (IsExplained R query root) (sym is.0) (record { explained = explained; not_memory = is.1; not_output = is.2 })
+    explained_of (Refused told) is = subst (IsExplained stated R query root) (sym is.0) (record { explained = explained; not_memory = is.1; not_output = is.2 })
     explained_of NoMemory is = tt
 
-    pub explains : (outcome : Outcome) → ComesOf size spans fault outcome → IfRefused outcome (IsExplained R query root)
+    pub explains : (outcome : Outcome) → ComesOf size spans fault outcome → IfRefused outcome (IsExplained stated R query root)
     explains outcome comes = explained_of outcome (of fault outcome comes)

@@ -6,7 +6,7 @@ use Rattle.osm_forms.specs.declared.form.Form.{Form}
 use Rattle.osm_forms.specs.declared.form.Form.TheVariants as forms
 use Rattle.osm_keys.specs.Publications.{Publication}
 use Rattle.osm_check.specs.Verdicts.{IsReadable}
-use Rattle.osm_packs.specs.Querying.{Clashes, Explains, IsTextOf}
+use Rattle.osm_packs.specs.Querying.{Clashes, Explains, ExplainsInFiles, IsTextOf}
 use Rattle.osm_packs.specs.declared.not_answered.NotAnswered.{NotAnswered}
 use Rattle.osm_packs.specs.declared.not_answered.NotAnswered.TheVariants as faults
 use Rattle.osm_query_web.specs.Pieces.{AreWanted, IsPartsOf}
@@ -48,5 +48,13 @@ pub record IsReasonOf (size : ℕ) (spans : List Span) (bytes query root : List 
   pub fault : NotAnswered
   pub told_is : told ≡ told_of fault
   pub explained : Explains (IsPartsOf size spans bytes) query root fault
+  pub not_memory : fault ≢ faults.Memory
+  pub not_output : fault ≢ faults.Device
+
+-- the same of files of which this root is stated
+pub record IsReasonInFiles (stated query root : List ℕ) (told : Told) : Type 0 where
+  pub fault : NotAnswered
+  pub told_is : told ≡ told_of fault
+  pub explained : ExplainsInFiles query root stated fault
   pub not_memory : fault ≢ faults.Memory
   pub not_output : fault ≢ faults.Device

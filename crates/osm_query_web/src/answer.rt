@@ -1,13 +1,14 @@
-//! Answers from pieces of a pack.
+//! Answers from pieces of a pack, or of the files of a head.
 
-ghost use Rattle.std.specs.Prelude.{◌≡◌, IfOk, IfSome, List};
+ghost use Rattle.std.specs.Prelude.{◌≡◌, IfErr, IfOk, IfSome, List, OnOk, Some};
 ghost use Rattle.tree_node.specs.Digests.{digest as digest_word};
 ghost use Rattle.osm_keys.specs.Manifests.{manifest_bytes};
 ghost use Rattle.osm_keys.specs.Publications.{IsPublication, Publication, root_of};
 ghost use Rattle.osm_keys.specs.declared.manifest.Manifest.{Manifest};
+ghost use Rattle.osm_packs.specs.Querying.{HasAnswered};
 ghost use Rattle.osm_query_web.specs.Answers.{IsAnswerOf, IsTableOfWanted};
 ghost use Rattle.osm_query_web.specs.declared.span.Span.{Span};
-ghost use Rattle.osm_query_web.specs.internal.Outcomes.{ComesOf, IfDocument, IfMissing, IfRefused, IsAfterRead, IsExplained, ListsWanted};
+ghost use Rattle.osm_query_web.specs.internal.Outcomes.{ComesOf, ExplainsBy, IfDocument, IfMissing, IfRefused, IsAfterRead, IsExplained, ListsWanted};
 ghost use Rattle.osm_query_web.specs.internal.Reading.{AreOf, ArePiecesOf};
 
 use crate::missing::{table_of, wanted_of};
@@ -15,23 +16,25 @@ use crate::outcome::Outcome;
 use crate::pieces::Pieces;
 use crate::reader::PieceReader;
 use crate::span::Span;
+use crate::stated::Stated;
 use node_pack::PackFault;
 use osm_forms::Form;
-use osm_packs::NotAnswered;
+use osm_packs::{NotAnswered, query_files};
 use outside_answer::Limits;
 use outside_shelf::Refused;
 use std::alloc::{AllocError, Global};
 use std::cell::Cell;
 use tree_node::Digest;
 
-/// Finds the answer to a query in the pieces of a pack, as the command `query` does, and where they don't suffice, what else of
-/// the pack is needed, as far as that is known. The query may need so many bytes of nodes.
+/// Finds the answer to a query in the pieces of a pack, or of the files of which this is stated, as the command `query` does, and
+/// where they don't suffice, what else of them is needed, as far as that is known. The query may need so many bytes of nodes.
 pub(crate) fn find_answer(
     alloc: Global,
     form: Form,
     root: &Digest,
     query: &[u8],
     at_most: u64,
+    stated: Option<Stated>,
     pieces: &Pieces<'_>,
 ) -> Outcome
     ensures right { (spans : List Span) (p : Publication) → AreOf spans pieces.now
@@ -42,7 +45,7 @@ pub(crate) fn find_answer(
     ensures missing { (spans : List Span) → AreOf spans pieces.now
         → IfMissing result (IsTableOfWanted pieces.now.size spans query.now) }
     ensures refused { (spans : List Span) → AreOf spans pieces.now → IfRefused result
-        (IsExplained (ArePiecesOf pieces.now) query.now root.now.0) }
+        (IsExplained stated (ArePiecesOf pieces.now) query.now root.now.0) }
 {
     let missed = Cell::new(Vec::new(alloc));
     let reader = PieceReader {
@@ -55,9 +58,47 @@ pub(crate) fn find_answer(
         work: None,
     };
     let mut document = Vec::new(alloc);
-    match osm_packs::query(alloc, form, root, query, limits, reader, &mut document) {
+    match read_answer(
+        alloc,
+        form,
+        root,
+        query,
+        limits,
+        stated,
+        reader,
+        &mut document,
+    ) {
         Ok(()) => Outcome::Document(document),
         Err(fault) => outcome_of(alloc, fault, pieces, missed.into_inner().as_slice()),
+    }
+}
+
+/// Finds the answer to a query in a pack, or in the files of which this is stated, and appends its document.
+fn read_answer(
+    alloc: Global,
+    form: Form,
+    root: &Digest,
+    query: &[u8],
+    limits: Limits,
+    stated: Option<Stated>,
+    reader: PieceReader<'_>,
+    document: &mut Vec<u8>,
+) -> Result<(), NotAnswered>
+    ensures right { (p : Publication) → IsPublication p → root.now.0 ≡ root_of p
+        → OnOk result (HasAnswered p form query.now (Some document.old.items) (Some document.new.items)) }
+    ensures rooted { OnOk result ((found : Manifest) × (digest_word (manifest_bytes found) ≡ root.now.0)) }
+    ensures refused { IfErr result (ExplainsBy stated (ArePiecesOf reader.entry.pieces.now) query.now root.now.0) }
+{
+    match stated {
+        None => osm_packs::query(alloc, form, root, query, limits, reader, document),
+        Some(
+            Stated {
+                root: stated,
+                manifest,
+            },
+        ) => query_files(
+            alloc, form, root, query, limits, reader, &stated, manifest, document,
+        ),
     }
 }
 

@@ -2,6 +2,7 @@
 
 mod call;
 mod four_objects;
+mod heads;
 mod page;
 mod reader;
 mod statuses;

@@ -1,17 +1,18 @@
 -- What comes of a call, and how it is handed over.
 -- Source: this project.
-use Rattle.std.specs.Prelude.{◌≡◌, ◌≢◌, ◌++◌, ◌<◌, ◌≤◌, ℕ, List, ⊤, drop, length}
+use Rattle.std.specs.Prelude.{◌≡◌, ◌≢◌, ◌++◌, ◌<◌, ◌≤◌, ℕ, List, None, Option, Some, ⊤, drop, length}
 use Rattle.node_pack.specs.declared.fault.PackFault.TheVariants as packs
 use Rattle.outside_shelf.specs.declared.refused.Refused.TheVariants as reasons
-use Rattle.osm_packs.specs.Querying.{Explains}
+use Rattle.osm_packs.specs.Querying.{Explains, ExplainsInFiles}
 use Rattle.osm_packs.specs.declared.not_answered.NotAnswered.{NotAnswered}
 use Rattle.osm_packs.specs.declared.not_answered.NotAnswered.TheVariants as faults
-use Rattle.osm_query_web.specs.Pieces.{AreWanted}
+use Rattle.osm_query_web.specs.Pieces.{AreWanted, IsPartsOf}
 use Rattle.osm_query_web.specs.Spans.{table_of}
 use Rattle.osm_query_web.specs.ToldFaults.{nothing, told_of}
 use Rattle.osm_query_web.specs.declared.outcome.Outcome.{Outcome}
 use Rattle.osm_query_web.specs.declared.outcome.Outcome.TheVariants.{Document, Missing, NoMemory, Refused}
 use Rattle.osm_query_web.specs.declared.span.Span.{Span}
+use Rattle.osm_query_web.specs.declared.stated.Stated.{Stated}
 use Rattle.osm_query_web.specs.declared.told.Told.{Told}
 use Rattle.osm_query_web.specs.declared.told.TheConstants.{MORE, NO, NO_MEMORY, TOO_SHORT, YES}
 
@@ -38,9 +39,23 @@ IfRefused (Missing table) P = ⊤
 IfRefused (Refused fault) P = P fault
 IfRefused NoMemory P = ⊤
 
--- the files that are read explain the fault, and it isn't out of memory
-pub record IsExplained (Reads : List ℕ → Type 0) (query root : List ℕ) (fault : NotAnswered) : Type 0 where
-  pub explained : Explains Reads query root fault
+-- why a fault comes: of a pack that is read so, or of files of which this is stated
+abbrev pub ExplainsBy : Option Stated → (List ℕ → Type 0) → (query root : List ℕ) → NotAnswered → Type 0
+ExplainsBy None Reads query root fault = Explains Reads query root fault
+ExplainsBy (Some stated) Reads query root fault = ExplainsInFiles query root stated.root.0 fault
+
+-- the files that are read, or what is stated of them, explain the fault, and it isn't out of memory
+pub record IsExplained (stated : Option Stated) (Reads : List ℕ → Type 0) (query root : List ℕ) (fault : NotAnswered) : Type 0 where
+  pub explained : ExplainsBy stated Reads query root fault
+  pub not_memory : fault ≢ faults.Memory
+  pub not_output : fault ≢ faults.Device
+
+-- There is no answer from a pack with these pieces, or from files of which this is stated, for the reason that is told: it isn't out of
+-- memory.
+pub record IsReasonBy (stated : Option Stated) (size : ℕ) (spans : List Span) (bytes query root : List ℕ) (told : Told) : Type 0 where
+  pub fault : NotAnswered
+  pub told_is : told ≡ told_of fault
+  pub explained : ExplainsBy stated (IsPartsOf size spans bytes) query root fault
   pub not_memory : fault ≢ faults.Memory
   pub not_output : fault ≢ faults.Device
 

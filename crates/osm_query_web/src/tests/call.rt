@@ -1,7 +1,7 @@
 //! A call, and what the caller finds after it.
 
 use super::four_objects::{PACK, ROOT};
-use crate::exports::osm_query_answer;
+use crate::exports::{osm_query_answer, osm_query_answer_in_files};
 use crate::told::Told;
 use std::alloc::Global;
 use std::test::Fail;
@@ -18,6 +18,8 @@ pub(super) struct Asked<'a> {
     pub(super) query: &'a [u8],
     pub(super) root: &'a [u8],
     pub(super) at_most: u64,
+    /// What a head states: the root, and where the manifest's record stands. Without one it is a pack.
+    pub(super) stated: Option<(&'a [u8], u64, u32)>,
     pub(super) size: u64,
     pub(super) table: &'a [u8],
     pub(super) bytes: &'a [u8],
@@ -30,6 +32,7 @@ pub(super) const WHOLE: Asked<'static> = Asked {
     query: QUERY,
     root: &ROOT,
     at_most: 1000,
+    stated: None,
     size: PACK.len() as u64,
     table: b"\0\0\0\0\0\0\0\0\x57\x03\0\0\0\0\0\0",
     bytes: PACK,
@@ -61,25 +64,54 @@ pub(super) fn called(alloc: Global, asked: &Asked<'_>) -> Result<Found, Fail> {
     };
     let mut len = 77;
     let mut room = vec![in alloc; b'.'; asked.room]?;
-    let status = osm_query_answer(
-        alloc,
-        asked.form,
-        asked.query,
-        asked.root,
-        asked.at_most,
-        asked.size,
-        asked.table,
-        asked.bytes,
-        &mut room,
-        &mut told,
-        &mut len,
-    );
+    let status = status_of(alloc, asked, &mut room, &mut told, &mut len);
     Ok(Found {
         status,
         told,
         len,
         room,
     })
+}
+
+/// The status of a call.
+fn status_of(
+    alloc: Global,
+    asked: &Asked<'_>,
+    room: &mut [u8],
+    told: &mut Told,
+    len: &mut u64,
+) -> u32 {
+    let Asked {
+        form,
+        query,
+        root,
+        at_most,
+        size,
+        table,
+        bytes,
+        ..
+    } = *asked;
+    match asked.stated {
+        None => osm_query_answer(
+            alloc, form, query, root, at_most, size, table, bytes, room, told, len,
+        ),
+        Some((stated, at, manifest_len)) => osm_query_answer_in_files(
+            alloc,
+            form,
+            query,
+            root,
+            at_most,
+            stated,
+            at,
+            manifest_len,
+            size,
+            table,
+            bytes,
+            room,
+            told,
+            len,
+        ),
+    }
 }
 
 impl Found {

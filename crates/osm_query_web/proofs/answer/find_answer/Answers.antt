@@ -21,13 +21,13 @@ returns-in-Err-clause-rooted c spans are = no_document c.args.pieces.now.size sp
 
 pub returns-in-Err-clause-missing : goal.returns-in-Err-clause-missing
 returns-in-Err-clause-missing c spans are =
-    missing c.args.pieces.now.size spans (ArePiecesOf c.args.pieces.now) c.args.query.now c.args.root.now.0 c.in-Err.fault c.in-Err.ensures.refused c.outcome_of.result (c.outcome_of.ensures spans are)
+    missing c.args.pieces.now.size spans c.args.stated (ArePiecesOf c.args.pieces.now) c.args.query.now c.args.root.now.0 c.in-Err.fault c.in-Err.ensures.refused c.outcome_of.result (c.outcome_of.ensures spans are)
 
 pub returns-in-Err-clause-refused : goal.returns-in-Err-clause-refused
 returns-in-Err-clause-refused c spans are =
-    explains c.args.pieces.now.size spans (ArePiecesOf c.args.pieces.now) c.args.query.now c.args.root.now.0 c.in-Err.fault c.in-Err.ensures.refused c.outcome_of.result (c.outcome_of.ensures spans are)
+    explains c.args.pieces.now.size spans c.args.stated (ArePiecesOf c.args.pieces.now) c.args.query.now c.args.root.now.0 c.in-Err.fault c.in-Err.ensures.refused c.outcome_of.result (c.outcome_of.ensures spans are)
 
 pub returns-in-Ok-clause-right : goal.returns-in-Ok-clause-right
 returns-in-Ok-clause-right c spans p are is root_is =
     let has = c.in-Ok.ensures.right p is root_is in
-    answer p c.args.form c.args.query.now has.0 c.query.new.output.items has.1 (has.2 ∙ ap (λ (l : List ℕ). l ++ document_in c.args.form has.0) c.new-document.ensures.items)
+    answer p c.args.form c.args.query.now has.0 c.read_answer.new.document.items has.1 (has.2 ∙ ap (λ (l : List ℕ). l ++ document_in c.args.form has.0) c.new-document.ensures.items)

@@ -4,16 +4,15 @@ use Rattle.std.proofs.lemmas.Bool.{false≢true}
 use Rattle.tree_node.proofs.shared.TreeLaws.{digest_len}
 use Rattle.osm_forms.specs.declared.form.Form.{Form}
 use Rattle.osm_keys.specs.Publications.{Publication, manifest_of, root_of}
-use Rattle.osm_packs.specs.Querying.{Explains}
-use Rattle.osm_query_web.proofs.ExplainLemmas.{explains_of}
+use Rattle.osm_query_web.proofs.ExplainLemmas.{explains_by}
 use Rattle.osm_query_web.proofs.HandedLemmas.{handed_over, headline, more, needed, nothing, refused, same_form, unreadable}
 use Rattle.osm_query_web.proofs.PieceLemmas.{pieces_of_file}
 use Rattle.osm_query_web.specs.Answers.{IsAnswerOf, IsTableOfWanted}
 use Rattle.osm_query_web.specs.Pieces.{IsPartsOf}
 use Rattle.osm_query_web.specs.Spans.{spans_in}
-use Rattle.osm_query_web.specs.internal.Outcomes.{IsExplained, handed}
+use Rattle.osm_query_web.specs.internal.Outcomes.{ExplainsBy, IsExplained, handed}
 use Rattle.osm_query_web.specs.internal.Reading.{ArePiecesOf}
-use Rattle.osm_query_web.proofs.exports.osm_query_answer.Goals as goal
+use Rattle.osm_query_web.proofs.call.answer_from_pieces.Goals as goal
 
 root_len : (root : List ℕ) (p : Publication) → root ≡ root_of p → length root ≡ 32
 root_len root p is = ap length is ∙ digest_len (manifest_of p)
@@ -37,13 +36,13 @@ returns-in-Ok-clause-refused c said =
     let pieces = c.in-Ok.pieces in
     let read = c.in-Ok.ensures.read in
     let found = handed c.hand_over.result c.hand_over.new.told c.hand_over.new.len c.args.room.now c.hand_over.new.room in
-    let told = refused found (IsExplained (ArePiecesOf pieces) c.args.query.now c.in-Some.root.0) c.find_answer-outcome.result c.hand_over.ensures said (c.find_answer-outcome.ensures.refused spans read.are) in
-    let explained = subst (λ (root : List ℕ). Explains (ArePiecesOf pieces) c.args.query.now root told.0) c.in-Some.ensures.same told.2.explained in
+    let told = refused found (IsExplained c.args.stated (ArePiecesOf pieces) c.args.query.now c.in-Some.root.0) c.find_answer-outcome.result c.hand_over.ensures said (c.find_answer-outcome.ensures.refused spans read.are) in
+    let explained = subst (λ (root : List ℕ). ExplainsBy c.args.stated (ArePiecesOf pieces) c.args.query.now root told.0) c.in-Some.ensures.same told.2.explained in
     record {
       fault = told.0;
       told_is = told.1;
       explained =
-          explains_of (ArePiecesOf pieces) (IsPartsOf c.args.size spans c.args.bytes.now) (λ file parts. pieces_of_file c.args.size c.args.bytes.now file spans pieces read.size_is read.bytes_are read.are parts)
+          explains_by c.args.stated (ArePiecesOf pieces) (IsPartsOf c.args.size spans c.args.bytes.now) (λ file parts. pieces_of_file c.args.size c.args.bytes.now file spans pieces read.size_is read.bytes_are read.are parts)
           c.args.query.now c.args.root.now told.0 explained;
       not_memory = told.2.not_memory;
       not_output = told.2.not_output;
@@ -63,7 +62,7 @@ returns-in-Ok-clause-unreadable c p fault is root_is has form_is is_table =
     let are = c.in-Ok.ensures.read.are in
     let says = c.find_answer-outcome.ensures in
     let found = handed c.hand_over.result c.hand_over.new.told c.hand_over.new.len c.args.room.now c.hand_over.new.room in
-    unreadable found p c.in-Some-form_of.form c.in-Ok.pieces.size spans (ArePiecesOf c.in-Ok.pieces) c.args.query.now c.in-Some.root.0 fault has c.find_answer-outcome.result c.hand_over.ensures
+    unreadable found p c.in-Some-form_of.form c.in-Ok.pieces.size spans c.args.stated (ArePiecesOf c.in-Ok.pieces) c.args.query.now c.in-Some.root.0 fault has c.find_answer-outcome.result c.hand_over.ensures
     (says.right spans p are is (c.in-Some.ensures.same ∙ root_is)) (says.missing spans are) (says.refused spans are)
 
 pub returns-in-Ok-clause-needed : goal.returns-in-Ok-clause-needed
