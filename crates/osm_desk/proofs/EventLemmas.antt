@@ -1,4 +1,4 @@
--- What connections are told by events, from what they are told by what happens.
+-- What connections are told by events, from what they complete by what happens.
 use Rattle.std.proofs.Common.{◌≡◌, ◌∙◌, ◌↔◌, ℕ, Bool, true, false, List, [], ◌∷◌, ◌++◌, ap, sym, refl, subst}
 use Rattle.std.specs.FinMap.{empty, get, insert, len}
 use Rattle.std.specs.Global.{Vec}
@@ -9,19 +9,19 @@ use Rattle.osm_index.specs.Snapshots.{HoldsPublication, IsAsBefore}
 use Rattle.osm_index.specs.declared.apply_fault.ApplyFault.{ApplyFault}
 use Rattle.osm_index.specs.declared.snapshot.Snapshot.{Snapshot}
 use Rattle.osm_gate.specs.Terms.{within}
+use Rattle.osm_desk.specs.Completions.{FindsRoom, MeetsRoom, completions_from, completions_of, completions_with, in_force, life_opened, life_with}
 use Rattle.osm_desk.specs.Contents.{Contents, desk_over}
-use Rattle.osm_desk.specs.Desks.{Connections, Desk, Told, arrive_step, end_step, fresh, open_step, publish_step, quietly, refuse, step}
+use Rattle.osm_desk.specs.Desks.{Completion, Connections, Desk, arrive_step, end_step, fresh_desk, open_step, publish_step, refuse, silent_step, step}
 use Rattle.osm_desk.specs.Events.{AreTurns, HasRoom, IsRoomFor, IsTold, IsToldFrom, IsToldPiece, IsTurn, Turn, answer_of, events_of, own_events, texts_to}
 use Rattle.osm_desk.specs.Happenings.{Happening, arrived, ended, opened, published}
-use Rattle.osm_desk.specs.Runs.{Done, Ran, RespondAll, got, stands, stood, texts_in}
+use Rattle.osm_desk.specs.Runs.{Done, Ran, RespondAll, lasting_happenings, stands, texts_got, texts_in}
 use Rattle.osm_desk.specs.Stepping.{Gives, HasStepped, IsOf, IsRefusal, texts_of}
-use Rattle.osm_desk.specs.Told.{FindsRoom, MeetsRoom, begun, in_force, longer, told, told_from, told_piece}
 use Rattle.osm_desk.specs.declared.desk_fault.DeskFault.{DeskFault}
 use Rattle.osm_desk.specs.declared.desk_fault.DeskFault.TheVariants.{AlreadyOpen, Memory, NoRoom, NotOpen, Refused}
 use Rattle.osm_desk.specs.declared.event.Event.{Event}
 use Rattle.osm_desk.specs.declared.event.Event.TheVariants.{Arrive, End, Open, Publish}
 use Rattle.osm_desk.specs.declared.limits.TheConstants.{CONNECTION_LIMIT}
-use Rattle.osm_desk.proofs.RunLemmas.{refused-leaves, run-told}
+use Rattle.osm_desk.proofs.RunLemmas.{refused-leaves, run-completions}
 use Rattle.osm_desk.proofs.shared.StillHeld.{still_held}
 
 -- ---- what a call did is a turn
@@ -54,7 +54,7 @@ AreOf p (event ∷ events) (h ∷ hs) = IsOf p event h × AreOf (then_in_force p
 open-publication : (d : Desk) (n : ℕ) (o : Option Rest) → (open_step d n o).desk.publication ≡ d.publication
 open-publication d n (Some r) = refl
 open-publication d n None = elim (nat_lt (len d.connections) CONNECTION_LIMIT)
-    as (λ b. (if b then quietly d.publication (insert d.connections n (open_rest [])) else refuse d NoRoom).desk.publication ≡ d.publication)
+    as (λ b. (if b then silent_step d.publication (insert d.connections n (open_rest [])) else refuse d NoRoom).desk.publication ≡ d.publication)
     [ true ↦ refl | false ↦ refl ]
 
 arrive-publication : (d : Desk) (n : ℕ) (piece : List ℕ) (o : Option Rest) → (arrive_step d n piece o).desk.publication ≡ d.publication
@@ -81,45 +81,45 @@ none-told : (texts : List (List ℕ)) → RespondAll [] texts → texts ≡ []
 none-told [] all = refl
 none-told (text ∷ texts) all = absurd all
 
-piece-told : (c : ℕ) (p : Publication) (life : Option (List ℕ)) (piece : List ℕ) (later : List Told) (Later : List (List ℕ) → Type 0) (texts : List (List ℕ))
-    → ((texts : List (List ℕ)) → RespondAll later texts → Later texts) → RespondAll (told_piece p life piece later) texts → IsToldPiece p life piece Later texts
+piece-told : (c : ℕ) (p : Publication) (life : Option (List ℕ)) (piece : List ℕ) (later : List Completion) (Later : List (List ℕ) → Type 0) (texts : List (List ℕ))
+    → ((texts : List (List ℕ)) → RespondAll later texts → Later texts) → RespondAll (completions_with p life piece later) texts → IsToldPiece p life piece Later texts
 piece-told c p None piece later Later texts again all = again texts all
 piece-told c p (Some bytes) piece later Later [] again all = absurd all
 piece-told c p (Some bytes) piece later Later (text ∷ texts) again all = (all.0, again texts all.1)
 
-arrive-told : (b : Bool) (mine others : List Told) (Mine Others : Type 0) (texts : List (List ℕ)) → (RespondAll mine texts → Mine) → (RespondAll others texts → Others)
+arrive-told : (b : Bool) (mine others : List Completion) (Mine Others : Type 0) (texts : List (List ℕ)) → (RespondAll mine texts → Mine) → (RespondAll others texts → Others)
     → RespondAll (if b then mine else others) texts → MatchBool b Mine Others
 arrive-told true mine others Mine Others texts one other all = one all
 arrive-told false mine others Mine Others texts one other all = other all
 
 told-events : (c : ℕ) (events : List Event) (hs : List Happening) (p : Publication) (life : Option (List ℕ)) (texts : List (List ℕ))
-    → AreOf p events hs → RespondAll (told_from c p life hs) texts → IsToldFrom c p life events texts
+    → AreOf p events hs → RespondAll (completions_from c p life hs) texts → IsToldFrom c p life events texts
 told-events c [] [] p life texts are all = none-told texts all
 told-events c [] (h ∷ hs) p life texts are all = absurd are
 told-events c (event ∷ events) [] p life texts are all = absurd are
 told-events c (Open n ∷ events) (h ∷ hs) p life texts are all =
-    told-events c events hs p (if n == c then begun life else life) texts
+    told-events c events hs p (if n == c then life_opened life else life) texts
     (subst (λ (h : Happening). AreOf (then_in_force p h) events hs) are.0 are.1)
-    (subst (λ (h : Happening). RespondAll (told_from c p life (h ∷ hs)) texts) are.0 all)
+    (subst (λ (h : Happening). RespondAll (completions_from c p life (h ∷ hs)) texts) are.0 all)
 told-events c (Arrive n piece ∷ events) (h ∷ hs) p life texts are all =
     let next = subst (λ (h : Happening). AreOf (then_in_force p h) events hs) are.0 are.1 in
-    arrive-told (n == c) (told_piece p life piece.items (told_from c p (longer life piece.items) hs)) (told_from c p life hs)
-    (IsToldPiece p life piece.items (IsToldFrom c p (longer life piece.items) events) texts) (IsToldFrom c p life events texts) texts
-    (piece-told c p life piece.items (told_from c p (longer life piece.items) hs) (IsToldFrom c p (longer life piece.items) events) texts
-    (λ texts all. told-events c events hs p (longer life piece.items) texts next all))
+    arrive-told (n == c) (completions_with p life piece.items (completions_from c p (life_with life piece.items) hs)) (completions_from c p life hs)
+    (IsToldPiece p life piece.items (IsToldFrom c p (life_with life piece.items) events) texts) (IsToldFrom c p life events texts) texts
+    (piece-told c p life piece.items (completions_from c p (life_with life piece.items) hs) (IsToldFrom c p (life_with life piece.items) events) texts
+    (λ texts all. told-events c events hs p (life_with life piece.items) texts next all))
     (λ all. told-events c events hs p life texts next all)
-    (subst (λ (h : Happening). RespondAll (told_from c p life (h ∷ hs)) texts) are.0 all)
+    (subst (λ (h : Happening). RespondAll (completions_from c p life (h ∷ hs)) texts) are.0 all)
 told-events c (End n ∷ events) (h ∷ hs) p life texts are all =
     told-events c events hs p (if n == c then None else life) texts
     (subst (λ (h : Happening). AreOf (then_in_force p h) events hs) are.0 are.1)
-    (subst (λ (h : Happening). RespondAll (told_from c p life (h ∷ hs)) texts) are.0 all)
+    (subst (λ (h : Happening). RespondAll (completions_from c p life (h ∷ hs)) texts) are.0 all)
 told-events c (Publish changes ∷ events) (h ∷ hs) p life texts are all =
     let (made, is_made, is) = are.0 in (
       made,
       is_made,
       told-events c events hs (in_force p made) life texts
           (subst (λ (h : Happening). AreOf (then_in_force p h) events hs) is are.1)
-          (subst (λ (h : Happening). RespondAll (told_from c p life (h ∷ hs)) texts) is all),
+          (subst (λ (h : Happening). RespondAll (completions_from c p life (h ∷ hs)) texts) is all),
     )
 
 -- ---- a run of the code is a run over happenings
@@ -127,9 +127,9 @@ told-events c (Publish changes ∷ events) (h ∷ hs) p life texts are all =
 record Mirrors (c : ℕ) (d : Desk) (turns : List Turn) : Type 0 where
   run : List Done
   ran : Ran d run
-  same : got c run ≡ texts_to c turns
-  are : AreOf d.publication (events_of turns) (stood run)
-  room : FindsRoom c d (stood run)
+  same : texts_got c run ≡ texts_to c turns
+  are : AreOf d.publication (events_of turns) (lasting_happenings run)
+  room : FindsRoom c d (lasting_happenings run)
 
 -- a happening finds the room that its event finds
 room-of : (c : ℕ) (d : Contents Snapshot) (p : Publication) (event : Event) (h : Happening) → IsOf p event h → IsRoomFor c d event → MeetsRoom c (desk_over d p) h
@@ -146,7 +146,7 @@ mirrors-ok c d event answers after turns h is gives room later = record {
   run = (h, Ok answers) ∷ later.run;
   ran = (gives, later.ran);
   same = ap (λ texts. texts_in c answers ++ texts) later.same;
-  are = (is, subst (λ (p : Publication). AreOf p (events_of turns) (stood later.run)) (step-publication d h) later.are);
+  are = (is, subst (λ (p : Publication). AreOf p (events_of turns) (lasting_happenings later.run)) (step-publication d h) later.are);
   room = (room, later.room);
 }
 
@@ -156,14 +156,14 @@ mirrors-refused : (c : ℕ) (d : Desk) (event : Event) (fault : DeskFault) (afte
     → Mirrors c d (record { event = event; answer = Err fault; after = after } ∷ turns)
 mirrors-refused c d event fault after turns h real is reply room later =
     let left = refused-leaves d h fault reply in
-    let next : AreOf (then_in_force d.publication h) (events_of turns) (stood later.run) =
-    subst (λ (p : Publication). AreOf p (events_of turns) (stood later.run)) (sym (ap (λ (d : Desk). d.publication) left) ∙ step-publication d h) later.are in
+    let next : AreOf (then_in_force d.publication h) (events_of turns) (lasting_happenings later.run) =
+    subst (λ (p : Publication). AreOf p (events_of turns) (lasting_happenings later.run)) (sym (ap (λ (d : Desk). d.publication) left) ∙ step-publication d h) later.are in
     record {
       run = (h, Err fault) ∷ later.run;
       ran = ((λ _. reply), later.ran);
       same = later.same;
       are = rw (real) (is, next);
-      room = rw (real) (room, subst (λ (d : Desk). FindsRoom c d (stood later.run)) (sym left) later.room);
+      room = rw (real) (room, subst (λ (d : Desk). FindsRoom c d (lasting_happenings later.run)) (sym left) later.room);
     }
 
 mirrors-memory : (c : ℕ) (d : Desk) (event : Event) (after : Contents Snapshot) (turns : List Turn) → Mirrors c d turns
@@ -218,11 +218,11 @@ mirrors c (turn ∷ turns) before p held are room =
 pub turns-told : (c : ℕ) (before : Contents Snapshot) (turns : List Turn) (p : Publication) → before.connections ≡ empty → HoldsPublication before.mirror p
     → AreTurns before turns → HasRoom c before turns → IsTold c (events_of turns) p (texts_to c turns)
 turns-told c before turns p none held are room =
-    let mirror : Mirrors c (fresh p) turns =
+    let mirror : Mirrors c (fresh_desk p) turns =
     subst (λ (connections : Connections). Mirrors c (with_connections p connections) turns) none (mirrors c turns before p held are room) in
-    let all = run-told (within None) c mirror.run p mirror.ran mirror.room in
-    told-events c (events_of turns) (stood mirror.run) p None (texts_to c turns) mirror.are
-    (subst (λ texts. RespondAll (told c (stood mirror.run) p) texts) mirror.same all)
+    let all = run-completions (within None) c mirror.run p mirror.ran mirror.room in
+    told-events c (events_of turns) (lasting_happenings mirror.run) p None (texts_to c turns) mirror.are
+    (subst (λ texts. RespondAll (completions_of c (lasting_happenings mirror.run) p) texts) mirror.same all)
 
 -- ---- the events of the others
 
@@ -231,7 +231,7 @@ Same c some others = (p : Publication) (life : Option (List ℕ)) (texts : List 
 
 own-open : (c n : ℕ) (events : List Event) → Same c events (own_events c events) → (b : Bool) → (n == c) ≡ b
     → Same c (Open n ∷ events) (if b then Open n ∷ own_events c events else own_events c events)
-own-open c n events again true is = λ p life texts. again p (if n == c then begun life else life) texts
+own-open c n events again true is = λ p life texts. again p (if n == c then life_opened life else life) texts
 own-open c n events again false is = λ p life texts. rw is (again p life texts)
 
 same-piece : (p : Publication) (life : Option (List ℕ)) (piece : List ℕ) (A B : List (List ℕ) → Type 0) → ((texts : List (List ℕ)) → A texts ↔ B texts)
@@ -247,7 +247,7 @@ same-match false A B C D one other = other
 own-arrive : (c n : ℕ) (piece : _) (events : List Event) → Same c events (own_events c events) → (b : Bool) → (n == c) ≡ b
     → Same c (Arrive n piece ∷ events) (if b then Arrive n piece ∷ own_events c events else own_events c events)
 own-arrive c n piece events again true is = λ p life texts.
-    same-match (n == c) _ _ _ _ (same-piece p life piece.items _ _ (λ texts. again p (longer life piece.items) texts) texts) (again p life texts)
+    same-match (n == c) _ _ _ _ (same-piece p life piece.items _ _ (λ texts. again p (life_with life piece.items) texts) texts) (again p life texts)
 own-arrive c n piece events again false is = λ p life texts. rw is (again p life texts)
 
 own-end : (c n : ℕ) (events : List Event) → Same c events (own_events c events) → (b : Bool) → (n == c) ≡ b

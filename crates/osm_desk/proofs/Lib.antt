@@ -1,5 +1,5 @@
 pub mod MapLemmas
-pub mod ToldLemmas
+pub mod CompletionLemmas
 pub mod RunLemmas
 pub mod RefusalLemmas
 pub mod MadeLemmas

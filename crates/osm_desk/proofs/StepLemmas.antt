@@ -14,7 +14,7 @@ use Rattle.osm_index.specs.declared.apply_fault.ApplyFault.TheVariants as refusa
 use Rattle.osm_index.specs.Snapshots.{HoldsPublication, IsAsBefore}
 use Rattle.osm_index.specs.declared.snapshot.Snapshot.{Snapshot}
 use Rattle.osm_desk.specs.Contents.{Contents, StandsFor, desk_over}
-use Rattle.osm_desk.specs.Desks.{Desk, Step, arrive_step, end_step, open_step, quietly, refuse, step}
+use Rattle.osm_desk.specs.Desks.{Desk, Step, arrive_step, end_step, open_step, refuse, silent_step, step}
 use Rattle.osm_desk.specs.Happenings.{Happening, arrived, ended, opened, published}
 use Rattle.osm_desk.specs.Faults.{fault_of}
 use Rattle.osm_desk.specs.Made.{IsMade, RefusesChanges}
@@ -54,14 +54,14 @@ module _ (d : Contents Snapshot) (n : ℕ) (p : Publication) where
 
   -- ---- an opening
 
-  opens : IsFree d n → step over (opened n) ≡ quietly p (insert d.connections n (open_rest []))
+  opens : IsFree d n → step over (opened n) ≡ silent_step p (insert d.connections n (open_rest []))
   opens (none, room) =
       ap (open_step over n) none
-      ∙ ap (λ b. if b then quietly p (insert d.connections n (open_rest [])) else refuse over NoRoom) (lt-ltb (len d.connections) CONNECTION_LIMIT room)
+      ∙ ap (λ b. if b then silent_step p (insert d.connections n (open_rest [])) else refuse over NoRoom) (lt-ltb (len d.connections) CONNECTION_LIMIT room)
 
   pub open_steps : (new : Contents Snapshot) → HoldsPublication d.mirror p → IsFree d n → new ≡ with_rest d n (open_rest []) → HasStepped over (Open n) [] new
   open_steps new holds free is =
-      let both = stepped over (opened n) (quietly p (insert d.connections n (open_rest []))) [] new (opens free) tt
+      let both = stepped over (opened n) (silent_step p (insert d.connections n (open_rest []))) [] new (opens free) tt
       (held_in d new p (ap (λ (d : Contents Snapshot). d.mirror) is) holds, ap (λ (d : Contents Snapshot). d.connections) is) in
       (opened n, refl, both.0, both.1)
 
@@ -74,7 +74,7 @@ module _ (d : Contents Snapshot) (n : ℕ) (p : Publication) where
     opened n,
     refl,
     ap (λ o. (open_step over n o).reply) none
-        ∙ ap (λ b. (if b then quietly p (insert d.connections n (open_rest [])) else refuse over NoRoom).reply) (le-ltb (len d.connections) CONNECTION_LIMIT full),
+        ∙ ap (λ b. (if b then silent_step p (insert d.connections n (open_rest [])) else refuse over NoRoom).reply) (le-ltb (len d.connections) CONNECTION_LIMIT full),
   )
   open_refused (Refused fault) is = absurd is
   open_refused Memory free = ap (λ (s : Step). is_ok s.reply) (opens free)
@@ -107,7 +107,7 @@ module _ (d : Contents Snapshot) (n : ℕ) (p : Publication) where
   pub end_steps : (new : Contents Snapshot) → HoldsPublication d.mirror p → IsSome (get d.connections n) → new ≡ without d n → HasStepped over (End n) [] new
   end_steps new holds some is =
       let (r, found) = some_by (get d.connections n) some in
-      let both = stepped over (ended n) (quietly p (remove d.connections n)) [] new (ap (end_step over n) found) tt
+      let both = stepped over (ended n) (silent_step p (remove d.connections n)) [] new (ap (end_step over n) found) tt
       (held_in d new p (ap (λ (d : Contents Snapshot). d.mirror) is) holds, ap (λ (d : Contents Snapshot). d.connections) is) in
       (ended n, refl, both.0, both.1)
 

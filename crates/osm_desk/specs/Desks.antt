@@ -20,31 +20,31 @@ pub record Desk : Type 0 where
   pub publication : Publication
   pub connections : Connections
 
--- some requests, and the publication that was in force when they were complete
-pub record Told : Type 0 where
+-- some requests that a piece completes, and the publication in force at that time
+pub record Completion : Type 0 where
   pub requests : List Request
   pub publication : Publication
 
--- what is told to connections, by their numbers, and the desk after that
+-- the completions of connections, by their numbers, and the desk after that
 pub record Step : Type 0 where
-  pub reply : Result (List (ℕ × Told)) DeskFault
+  pub reply : Result (List (ℕ × Completion)) DeskFault
   pub desk : Desk
 
 -- a desk without connections
-abbrev pub fresh : Publication → Desk
-fresh p = record { publication = p; connections = empty }
+abbrev pub fresh_desk : Publication → Desk
+fresh_desk p = record { publication = p; connections = empty }
 
 -- a refusal changes nothing
 abbrev pub refuse : Desk → DeskFault → Step
 refuse d fault = record { reply = Err fault; desk = d }
 
-abbrev pub quietly : Publication → Connections → Step
-quietly p connections = record { reply = Ok []; desk = record { publication = p; connections = connections } }
+abbrev pub silent_step : Publication → Connections → Step
+silent_step p connections = record { reply = Ok []; desk = record { publication = p; connections = connections } }
 
 abbrev pub open_step : Desk → ℕ → Option Rest → Step
 open_step d n (Some rest) = refuse d AlreadyOpen
 open_step d n None =
-    if nat_lt (len d.connections) CONNECTION_LIMIT then quietly d.publication (insert d.connections n (open_rest []))
+    if nat_lt (len d.connections) CONNECTION_LIMIT then silent_step d.publication (insert d.connections n (open_rest []))
     else refuse d NoRoom
 
 abbrev pub arrive_step : Desk → ℕ → List ℕ → Option Rest → Step
@@ -56,11 +56,11 @@ arrive_step d n piece (Some rest) = record {
 
 abbrev pub end_step : Desk → ℕ → Option Rest → Step
 end_step d n None = refuse d NotOpen
-end_step d n (Some rest) = quietly d.publication (remove d.connections n)
+end_step d n (Some rest) = silent_step d.publication (remove d.connections n)
 
 abbrev pub publish_step : Desk → Result Publication ApplyFault → Step
 publish_step d (Err fault) = refuse d (Refused fault)
-publish_step d (Ok p) = quietly p d.connections
+publish_step d (Ok p) = silent_step p d.connections
 
 -- one step: an open connection of this number is D1 before the limit is D3
 abbrev pub step : Desk → Happening → Step
@@ -70,6 +70,6 @@ step d (ended n) = end_step d n (get d.connections n)
 step d (published made) = publish_step d made
 
 -- the replies to one happening after the other
-abbrev pub replies : Desk → List Happening → List (Result (List (ℕ × Told)) DeskFault)
+abbrev pub replies : Desk → List Happening → List (Result (List (ℕ × Completion)) DeskFault)
 replies d [] = []
 replies d (h ∷ hs) = (step d h).reply ∷ replies (step d h).desk hs

@@ -9,11 +9,11 @@ use Rattle.osm_keys.specs.Publications.{Publication}
 use Rattle.osm_index.specs.Snapshots.{HoldsPublication, IsAsBefore}
 use Rattle.osm_index.specs.declared.apply_fault.ApplyFault.{ApplyFault}
 use Rattle.osm_index.specs.declared.snapshot.Snapshot.{Snapshot}
+use Rattle.osm_desk.specs.Completions.{in_force, life_opened, life_with, requests_completed}
 use Rattle.osm_desk.specs.Contents.{Contents, desk_over}
 use Rattle.osm_desk.specs.Made.{IsMade}
 use Rattle.osm_desk.specs.Runs.{stands, texts_in}
 use Rattle.osm_desk.specs.Stepping.{HasStepped, IsRefusal, texts_of}
-use Rattle.osm_desk.specs.Told.{begun, ending, in_force, longer}
 use Rattle.osm_desk.specs.declared.desk_fault.DeskFault.{DeskFault}
 use Rattle.osm_desk.specs.declared.event.Event.{Event}
 use Rattle.osm_desk.specs.declared.event.Event.TheVariants.{Arrive, End, Open, Publish}
@@ -25,14 +25,14 @@ use Rattle.osm_desk.specs.declared.limits.TheConstants.{CONNECTION_LIMIT}
 abbrev pub IsToldPiece : Publication → Option (List ℕ) → List ℕ → (List (List ℕ) → Type 0) → List (List ℕ) → Type 0
 IsToldPiece p None piece Later texts = Later texts
 IsToldPiece p (Some bytes) piece Later [] = ⊥
-IsToldPiece p (Some bytes) piece Later (text ∷ texts) = Responds p (ending bytes piece) text × Later texts
+IsToldPiece p (Some bytes) piece Later (text ∷ texts) = Responds p (requests_completed bytes piece) text × Later texts
 
 -- from this publication on, and in this life: changes that are refused change nothing
 abbrev pub IsToldFrom : ℕ → Publication → Option (List ℕ) → List Event → List (List ℕ) → Type 0
 IsToldFrom c p life [] texts = texts ≡ []
-IsToldFrom c p life (Open n ∷ events) texts = IsToldFrom c p (if n == c then begun life else life) events texts
+IsToldFrom c p life (Open n ∷ events) texts = IsToldFrom c p (if n == c then life_opened life else life) events texts
 IsToldFrom c p life (Arrive n piece ∷ events) texts =
-    MatchBool (n == c) (IsToldPiece p life piece.items (IsToldFrom c p (longer life piece.items) events) texts) (IsToldFrom c p life events texts)
+    MatchBool (n == c) (IsToldPiece p life piece.items (IsToldFrom c p (life_with life piece.items) events) texts) (IsToldFrom c p life events texts)
 IsToldFrom c p life (End n ∷ events) texts = IsToldFrom c p (if n == c then None else life) events texts
 IsToldFrom c p life (Publish changes ∷ events) texts =
     (made : Result Publication ApplyFault) × IsMade p changes.items made × IsToldFrom c (in_force p made) life events texts

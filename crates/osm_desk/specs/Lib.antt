@@ -1,4 +1,5 @@
 pub mod AnnouncedRoots
+pub mod Completions
 pub mod Contents
 pub mod Desks
 pub mod Events
@@ -9,5 +10,4 @@ pub mod OneConnection
 pub mod Published
 pub mod Runs
 pub mod Stepping
-pub mod Told
 pub mod internal

@@ -9,7 +9,7 @@ use Rattle.osm_index.specs.Snapshots.{HoldsPublication}
 use Rattle.osm_index.specs.declared.snapshot.Snapshot.{Snapshot}
 use Rattle.osm_keys.specs.Publications.{Publication}
 use Rattle.osm_desk.specs.Contents.{Contents, StandsFor}
-use Rattle.osm_desk.specs.Desks.{Desk, Told, step}
+use Rattle.osm_desk.specs.Desks.{Completion, Desk, step}
 use Rattle.osm_desk.specs.Happenings.{Happening, arrived, ended, opened, published}
 use Rattle.osm_desk.specs.Made.{IsMade}
 use Rattle.osm_desk.specs.declared.desk_fault.DeskFault.{DeskFault}
@@ -28,21 +28,21 @@ IsOf p (Publish changes) h = (made : Result Publication _) × IsMade p changes.i
 abbrev pub texts_of : List (ℕ × Vec ℕ) → List (ℕ × List ℕ)
 texts_of answers = map (λ (answer : ℕ × Vec ℕ). (answer.0, answer.1.items)) answers
 
--- pair by pair the number, and the responses to what is told, on these terms
-abbrev pub RespondEachOn : Terms → List (ℕ × Told) → List (ℕ × List ℕ) → Type 0
+-- pair by pair the number, and the responses to the completion, on these terms
+abbrev pub RespondEachOn : Terms → List (ℕ × Completion) → List (ℕ × List ℕ) → Type 0
 RespondEachOn terms [] [] = Unit {0}
 RespondEachOn terms [] (a ∷ answers) = ⊥
 RespondEachOn terms (t ∷ ts) [] = ⊥
 RespondEachOn terms (t ∷ ts) (a ∷ answers) =
     (a.0 ≡ t.0) × RespondsOn terms t.1.publication t.1.requests a.1 × RespondEachOn terms ts answers
 
--- the step isn't refused, and these are the answers to what it tells
-abbrev pub GivesOn : Terms → Result (List (ℕ × Told)) DeskFault → List (ℕ × List ℕ) → Type 0
+-- the step isn't refused, and these are the answers to its completions
+abbrev pub GivesOn : Terms → Result (List (ℕ × Completion)) DeskFault → List (ℕ × List ℕ) → Type 0
 GivesOn terms (Err fault) answers = ⊥
 GivesOn terms (Ok told) answers = RespondEachOn terms told answers
 
 -- the same where nodes are held in memory, and there is no budget
-abbrev pub Gives : Result (List (ℕ × Told)) DeskFault → List (ℕ × List ℕ) → Type 0
+abbrev pub Gives : Result (List (ℕ × Completion)) DeskFault → List (ℕ × List ℕ) → Type 0
 Gives reply answers = GivesOn (within None) reply answers
 
 -- the event is a happening whose step gives the answers, and leaves a desk that the contents stand for

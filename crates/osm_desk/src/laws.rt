@@ -12,13 +12,13 @@ ghost use Rattle.osm_keys.specs.Publications.{Publication, root_of};
 ghost use Rattle.osm_index.specs.Snapshots.{HoldsPublication};
 ghost use Rattle.osm_index.specs.declared.apply_fault.ApplyFault.{ApplyFault};
 ghost use Rattle.osm_index.specs.declared.snapshot.Snapshot.{Snapshot};
+ghost use Rattle.osm_desk.specs.Completions.{FindsRoom, all_completions_in, completions_of, own_happenings};
 ghost use Rattle.osm_desk.specs.Contents.{Contents};
-ghost use Rattle.osm_desk.specs.Desks.{fresh, replies};
+ghost use Rattle.osm_desk.specs.Desks.{fresh_desk, replies};
 ghost use Rattle.osm_desk.specs.Events.{AreTurns, HasRoom, IsTold, Turn, events_of, own_events, texts_to};
 ghost use Rattle.osm_desk.specs.Happenings.{Happening};
 ghost use Rattle.osm_desk.specs.Made.{IsMade};
-ghost use Rattle.osm_desk.specs.Runs.{Done, Ran, RanOn, RanWithin, RespondAll, RespondAllOn, RespondAllWithin, got, stood};
-ghost use Rattle.osm_desk.specs.Told.{FindsRoom, alone, given, told};
+ghost use Rattle.osm_desk.specs.Runs.{Done, Ran, RanOn, RanWithin, RespondAll, RespondAllOn, RespondAllWithin, lasting_happenings, texts_got};
 ghost use Rattle.osm_desk.specs.declared.event.Event.{Event};
 ghost use Rattle.osm_desk.specs.declared.limits.TheConstants.{CONNECTION_LIMIT};
 
@@ -44,30 +44,30 @@ pub fn limits_law()
 /// A law: whatever happens, a desk tells a connection what that one's own bytes ask, over the publication that is in
 /// force when each request is complete. That holds where the connection never is opened while 64 others are open.
 pub fn each_is_told_its_own()
-    ensures { (c : ℕ) (hs : List Happening) (p : Publication) → FindsRoom c (fresh p) hs
-        → given c (replies (fresh p) hs) ≡ told c hs p }
+    ensures { (c : ℕ) (hs : List Happening) (p : Publication) → FindsRoom c (fresh_desk p) hs
+        → all_completions_in c (replies (fresh_desk p) hs) ≡ completions_of c hs p }
 {}
 
 /// A law: what happens to the other connections has no part in it.
 pub fn others_change_nothing()
     ensures { (c : ℕ) (hs : List Happening) (p : Publication)
-        → told c hs p ≡ told c (alone c hs) p }
+        → completions_of c hs p ≡ completions_of c (own_happenings c hs) p }
 {}
 
-/// A law: what a connection gets in a run of the code are the responses to what it is told, by all that happened but
+/// A law: what a connection gets in a run of the code are the responses to what it completes, by all that happened but
 /// what was refused out of memory. That each step of the code is a step of such a run, the clauses of `Desk::step` say.
 pub fn runs_tell_each_its_own()
-    ensures told { (c : ℕ) (run : List Done) (p : Publication) → Ran (fresh p) run
-        → FindsRoom c (fresh p) (stood run)
-        → RespondAll (told c (stood run) p) (got c run) }
+    ensures told { (c : ℕ) (run : List Done) (p : Publication) → Ran (fresh_desk p) run
+        → FindsRoom c (fresh_desk p) (lasting_happenings run)
+        → RespondAll (completions_of c (lasting_happenings run) p) (texts_got c run) }
     // The same where each query has a budget.
     ensures within { (most : Option ℕ) (c : ℕ) (run : List Done) (p : Publication)
-        → RanWithin most (fresh p) run → FindsRoom c (fresh p) (stood run)
-        → RespondAllWithin most (told c (stood run) p) (got c run) }
+        → RanWithin most (fresh_desk p) run → FindsRoom c (fresh_desk p) (lasting_happenings run)
+        → RespondAllWithin most (completions_of c (lasting_happenings run) p) (texts_got c run) }
     // And on any terms.
     ensures on_terms { (terms : Terms) (c : ℕ) (run : List Done) (p : Publication)
-        → RanOn terms (fresh p) run → FindsRoom c (fresh p) (stood run)
-        → RespondAllOn terms (told c (stood run) p) (got c run) }
+        → RanOn terms (fresh_desk p) run → FindsRoom c (fresh_desk p) (lasting_happenings run)
+        → RespondAllOn terms (completions_of c (lasting_happenings run) p) (texts_got c run) }
 {}
 
 /// A law: a response of status 200 carries the root of the publication that it is over.

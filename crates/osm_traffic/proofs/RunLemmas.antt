@@ -4,11 +4,11 @@ use Rattle.std.proofs.lemmas.List.{append-nil}
 use Rattle.std.specs.Cmp.{nat_cmp_total}
 use Rattle.std.specs.FinMap.{get, insert, len, len-remove, remove}
 use Rattle.std.specs.Prelude.{◌==◌, Option, Some, None, Result, Ok, Err, cond, is_some, if◌then◌else◌, nat_lt}
-use Rattle.osm_desk.specs.Desks.{Connections, Desk, Told, arrive_step, end_step, open_step, publish_step, quietly, refuse, step}
+use Rattle.osm_desk.specs.Completions.{FindsRoom, MeetsRoom}
+use Rattle.osm_desk.specs.Desks.{Completion, Connections, Desk, arrive_step, end_step, open_step, publish_step, refuse, silent_step, step}
 use Rattle.osm_desk.specs.Happenings.{Happening, arrived, ended, opened, published}
-use Rattle.osm_desk.specs.Runs.{Done, IsRefusedBy, RanOn, got, stands, stood, texts_in}
+use Rattle.osm_desk.specs.Runs.{Done, IsRefusedBy, RanOn, lasting_happenings, stands, texts_got, texts_in}
 use Rattle.osm_desk.specs.Stepping.{GivesOn, RespondEachOn}
-use Rattle.osm_desk.specs.Told.{FindsRoom, MeetsRoom}
 use Rattle.osm_gate.specs.Connections.{Rest, open_rest}
 use Rattle.osm_gate.specs.Serving.{no_memory}
 use Rattle.osm_gate.specs.Terms.{Terms}
@@ -25,8 +25,8 @@ use Rattle.std.proofs.lemmas.Bool.{eqb-true}
 
 open-leaves : (d : Desk) (n : ℕ) (o : Option Rest) (fault : DeskFault) → (open_step d n o).reply ≡ Err fault → (open_step d n o).desk ≡ d
 open-leaves d n (Some r) fault = λ e. refl
-open-leaves d n None fault = elim (nat_lt (len d.connections) CONNECTION_LIMIT) as (λ b. (if b then quietly d.publication (insert d.connections n (open_rest [])) else refuse d NoRoom).reply ≡ Err fault
-    → (if b then quietly d.publication (insert d.connections n (open_rest [])) else refuse d NoRoom).desk ≡ d) [ true ↦ λ e. cc | false ↦ λ e. refl ]
+open-leaves d n None fault = elim (nat_lt (len d.connections) CONNECTION_LIMIT) as (λ b. (if b then silent_step d.publication (insert d.connections n (open_rest [])) else refuse d NoRoom).reply ≡ Err fault
+    → (if b then silent_step d.publication (insert d.connections n (open_rest [])) else refuse d NoRoom).desk ≡ d) [ true ↦ λ e. cc | false ↦ λ e. refl ]
 
 arrive-leaves : (d : Desk) (n : ℕ) (piece : List ℕ) (o : Option Rest) (fault : DeskFault) → (arrive_step d n piece o).reply ≡ Err fault → (arrive_step d n piece o).desk ≡ d
 arrive-leaves d n piece None fault e = refl
@@ -150,13 +150,13 @@ finds_if : (c : ℕ) (d : Desk) (h : Happening) (fault : DeskFault) (hs : List H
 finds_if c d h fault hs refused room later false is = later
 finds_if c d h fault hs refused room later true is = (meets c d h room, subst (λ (d : Desk). FindsRoom c d hs) (sym (refused-leaves d h fault (refused is))) later)
 
-finds : (terms : Terms) (c : ℕ) (run : List Done) (d : Desk) → RanOn terms d run → IsRoomy d run → FindsRoom c d (stood run)
+finds : (terms : Terms) (c : ℕ) (run : List Done) (d : Desk) → RanOn terms d run → IsRoomy d run → FindsRoom c d (lasting_happenings run)
 unfolding IsRoomy
 finds terms c [] d ran roomy = tt
 finds terms c ((h, Ok answers) ∷ more) d ran roomy = (meets c d h roomy.0, finds terms c more (step d h).desk ran.1 roomy.1)
-finds terms c ((h, Err fault) ∷ more) d ran roomy = finds_if c d h fault (stood more) ran.0 roomy.0 (finds terms c more d ran.1 roomy.1) (stands fault) refl
+finds terms c ((h, Err fault) ∷ more) d ran roomy = finds_if c d h fault (lasting_happenings more) ran.0 roomy.0 (finds terms c more d ran.1 roomy.1) (stands fault) refl
 
-pub finds_in_order : (terms : Terms) (c : ℕ) (d : Desk) (deeds : List Deed) → Runs terms d deeds → HasRoom d deeds → FindsRoom c d (stood (in_order deeds))
+pub finds_in_order : (terms : Terms) (c : ℕ) (d : Desk) (deeds : List Deed) → Runs terms d deeds → HasRoom d deeds → FindsRoom c d (lasting_happenings (in_order deeds))
 finds_in_order terms c d deeds ran room = finds terms c (in_order deeds) d (ran_in_order terms d deeds ran) (roomy_in_order d deeds room)
 
 -- ---- what is owed
@@ -165,10 +165,10 @@ joined_append : (a b : List (List ℕ)) → joined (a ++ b) ≡ joined a ++ join
 joined_append [] b = refl
 joined_append (text ∷ a) b = ap (λ rest. text ++ rest) (joined_append a b) ∙ sym (append_assoc text (joined a) (joined b))
 
-got_append : (c : ℕ) (a b : List Done) → got c (a ++ b) ≡ got c a ++ got c b
-got_append c [] b = refl
-got_append c ((h, Ok answers) ∷ a) b = ap (λ rest. texts_in c answers ++ rest) (got_append c a b) ∙ sym (append_assoc (texts_in c answers) (got c a) (got c b))
-got_append c ((h, Err fault) ∷ a) b = got_append c a b
+texts_got_append : (c : ℕ) (a b : List Done) → texts_got c (a ++ b) ≡ texts_got c a ++ texts_got c b
+texts_got_append c [] b = refl
+texts_got_append c ((h, Ok answers) ∷ a) b = ap (λ rest. texts_in c answers ++ rest) (texts_got_append c a b) ∙ sym (append_assoc (texts_in c answers) (texts_got c a) (texts_got c b))
+texts_got_append c ((h, Err fault) ∷ a) b = texts_got_append c a b
 
 texts_joined : (c : ℕ) (answers : List (ℕ × List ℕ)) → joined (texts_in c answers) ≡ texts_for c answers
 texts_joined c [] = refl
@@ -181,7 +181,7 @@ nothing_for : (terms : Terms) (c : ℕ) (answers : List (ℕ × List ℕ)) → R
 nothing_for terms c [] r = refl
 nothing_for terms c (a ∷ answers) r = absurd r
 
-one_for : (terms : Terms) (c n : ℕ) (t : Told) (answers : List (ℕ × List ℕ)) → (n ≡ c → ⊥) → RespondEachOn terms ((n, t) ∷ []) answers → texts_for c answers ≡ []
+one_for : (terms : Terms) (c n : ℕ) (t : Completion) (answers : List (ℕ × List ℕ)) → (n ≡ c → ⊥) → RespondEachOn terms ((n, t) ∷ []) answers → texts_for c answers ≡ []
 one_for terms c n t [] apart r = refl
 one_for terms c n t (a ∷ answers) apart r =
     ap (λ (k : ℕ). if k == c then a.1 ++ texts_for c answers else texts_for c answers) r.0
@@ -190,7 +190,7 @@ one_for terms c n t (a ∷ answers) apart r =
 
 opened_for : (terms : Terms) (c : ℕ) (d : Desk) (n : ℕ) (o : Option Rest) (answers : List (ℕ × List ℕ)) → GivesOn terms (open_step d n o).reply answers → texts_for c answers ≡ []
 opened_for terms c d n (Some r) answers gives = absurd gives
-opened_for terms c d n None answers gives = elim (nat_lt (len d.connections) CONNECTION_LIMIT) as (λ b. GivesOn terms (if b then quietly d.publication (insert d.connections n (open_rest [])) else refuse d NoRoom).reply answers → texts_for c answers ≡ [])
+opened_for terms c d n None answers gives = elim (nat_lt (len d.connections) CONNECTION_LIMIT) as (λ b. GivesOn terms (if b then silent_step d.publication (insert d.connections n (open_rest [])) else refuse d NoRoom).reply answers → texts_for c answers ≡ [])
     [ true ↦ λ gives. nothing_for terms c answers gives | false ↦ λ gives. absurd gives ] gives
 
 arrived_for : (terms : Terms) (c : ℕ) (d : Desk) (n : ℕ) (piece : List ℕ) (o : Option Rest) (answers : List (ℕ × List ℕ)) → (n ≡ c → ⊥) → GivesOn terms (arrive_step d n piece o).reply answers → texts_for c answers ≡ []
@@ -235,26 +235,26 @@ err_words : (all joint : List ℕ) (fed starving : Bool) → all ≡ joint ++ la
 err_words all joint fed true is was = ap (λ all. all ++ no_memory) (is ∙ ap (λ b. joint ++ last_word b) (was refl) ∙ append-nil joint)
 err_words all joint fed false is was = append-nil all ∙ is
 
-joined_more : (c : ℕ) (run : List Done) (h : Happening) (answers : List (ℕ × List ℕ)) → joined (got c (run ++ (h, Ok answers) ∷ [])) ≡ joined (got c run) ++ texts_for c answers
+joined_more : (c : ℕ) (run : List Done) (h : Happening) (answers : List (ℕ × List ℕ)) → joined (texts_got c (run ++ (h, Ok answers) ∷ [])) ≡ joined (texts_got c run) ++ texts_for c answers
 joined_more c run h answers =
-    ap joined (got_append c run ((h, Ok answers) ∷ []))
-    ∙ joined_append (got c run) (texts_in c answers ++ [])
-    ∙ ap (λ text. joined (got c run) ++ text) (ap joined (append-nil (texts_in c answers)) ∙ texts_joined c answers)
+    ap joined (texts_got_append c run ((h, Ok answers) ∷ []))
+    ∙ joined_append (texts_got c run) (texts_in c answers ++ [])
+    ∙ ap (λ text. joined (texts_got c run) ++ text) (ap joined (append-nil (texts_in c answers)) ∙ texts_joined c answers)
 
-pub owed_joined : (terms : Terms) (c : ℕ) (d : Desk) (deeds : List Deed) → Runs terms d deeds → IsHushed deeds → owed c deeds ≡ joined (got c (in_order deeds)) ++ last_word (is_fed c deeds)
+pub owed_joined : (terms : Terms) (c : ℕ) (d : Desk) (deeds : List Deed) → Runs terms d deeds → IsHushed deeds → owed c deeds ≡ joined (texts_got c (in_order deeds)) ++ last_word (is_fed c deeds)
 owed_joined terms c d [] runs hushed = refl
 owed_joined terms c d (stepped h (Ok answers) ∷ before) runs hushed =
-    ok_words c (owed c before) (texts_for c answers) (joined (got c (in_order before))) (is_fed c before) (owed_joined terms c d before runs.1 (hushed_before h (Ok answers) before hushed))
+    ok_words c (owed c before) (texts_for c answers) (joined (texts_got c (in_order before))) (is_fed c before) (owed_joined terms c d before runs.1 (hushed_before h (Ok answers) before hushed))
     (λ isnt. unheard terms c (desk_after d before) h answers before isnt hushed runs.0)
     ∙ ap (λ joint. joint ++ last_word (is_fed c before)) (sym (joined_more c (in_order before) h answers))
 owed_joined terms c d (stepped h (Err fault) ∷ before) runs hushed =
-    err_words (owed c before) (joined (got c (in_order before))) (is_fed c before) (starves c h) (owed_joined terms c d before runs.1 (hushed_before h (Err fault) before hushed))
+    err_words (owed c before) (joined (texts_got c (in_order before))) (is_fed c before) (starves c h) (owed_joined terms c d before runs.1 (hushed_before h (Err fault) before hushed))
     (λ is. starved c h (Err fault) before is hushed)
-    ∙ ap (λ texts. joined texts ++ last_word (is_fed c (stepped h (Err fault) ∷ before))) (sym (got_append c (in_order before) ((h, Err fault) ∷ []) ∙ append-nil (got c (in_order before))))
+    ∙ ap (λ texts. joined texts ++ last_word (is_fed c (stepped h (Err fault) ∷ before))) (sym (texts_got_append c (in_order before) ((h, Err fault) ∷ []) ∙ append-nil (texts_got c (in_order before))))
 owed_joined terms c d (handed n bytes ∷ before) runs hushed = owed_joined terms c d before runs hushed
 owed_joined terms c d (parted n whole ∷ before) runs hushed = owed_joined terms c d before runs hushed
 owed_joined terms c d (lost n ∷ before) runs hushed = owed_joined terms c d before runs hushed
 owed_joined terms c d (waited room ∷ before) runs hushed = owed_joined terms c d before runs hushed
 
-pub handed_own : (terms : Terms) (c wanted : ℕ) (d : Desk) (deeds : List Deed) → Serves terms wanted d deeds → (rest : List ℕ) × (sent c deeds ++ rest ≡ joined (got c (in_order deeds)) ++ last_word (is_fed c deeds))
+pub handed_own : (terms : Terms) (c wanted : ℕ) (d : Desk) (deeds : List Deed) → Serves terms wanted d deeds → (rest : List ℕ) × (sent c deeds ++ rest ≡ joined (texts_got c (in_order deeds)) ++ last_word (is_fed c deeds))
 handed_own terms c wanted d deeds s = let (rest, is) = s.fronts c in (rest, is ∙ owed_joined terms c d deeds s.ran s.hushed)

@@ -6,7 +6,7 @@ use Rattle.std.specs.FinMap.{empty, get, insert, len, remove, get-empty, len-emp
 use Rattle.std.specs.Ordering.{nat_cmp}
 use Rattle.std.specs.Prelude.{Option, Some, None, Result, Ok, Err, OnErr, IsSome, is_some, if◌then◌else◌, ◌==◌}
 use Rattle.osm_desk.specs.Contents.{Contents, StandsFor}
-use Rattle.osm_desk.specs.Desks.{Connections, Desk, Step, arrive_step, end_step, fresh, open_step, quietly, refuse, step}
+use Rattle.osm_desk.specs.Desks.{Connections, Desk, Step, arrive_step, end_step, fresh_desk, open_step, refuse, silent_step, step}
 use Rattle.osm_desk.specs.Happenings.{Happening, arrived, ended, opened, published}
 use Rattle.osm_desk.specs.Runs.{IsRefusedBy}
 use Rattle.osm_desk.specs.OneConnection.{IsFree, RefusesOpening, rest_if, rest_of, with_rest, without}
@@ -373,9 +373,9 @@ module _ {M : Type 0} (holds : M → Publication → Type 0) (terms : Terms) (wa
         → Stands holds terms wanted d base (stepped (opened taken) (Ok []) ∷ deeds) (noted (came taken) log) (insert outputs taken []) contents' (taken + 1)
     opens_ok contents' free new =
         let none : get D.connections taken ≡ None = ap (λ (all : Connections). get all taken) (sym same_connections) ∙ free.0 in
-        let is_opened : step D (opened taken) ≡ quietly D.publication (insert D.connections taken (open_rest [])) =
+        let is_opened : step D (opened taken) ≡ silent_step D.publication (insert D.connections taken (open_rest [])) =
         ap (open_step D taken) none
-        ∙ ap (λ b. if b then quietly D.publication (insert D.connections taken (open_rest [])) else refuse D NoRoom) (lt-ltb (len D.connections) CONNECTION_LIMIT has_room) in
+        ∙ ap (λ b. if b then silent_step D.publication (insert D.connections taken (open_rest [])) else refuse D NoRoom) (lt-ltb (len D.connections) CONNECTION_LIMIT has_room) in
         let grown : contents'.connections ≡ insert contents.connections taken (open_rest []) = ap (λ (c : Contents M). c.connections) new in
         let held : holds contents'.mirror D.publication = subst (λ (c : Contents M). holds c.mirror D.publication) (sym new) s.desk.0 in
         let joined : contents'.connections ≡ insert D.connections taken (open_rest []) =
@@ -536,7 +536,7 @@ looked holds terms wanted d base deeds log outputs contents contents' taken s co
 
 -- before anything has happened
 pub begins : {M : Type 0} (holds : M → Publication → Type 0) (terms : Terms) (wanted : ℕ) (contents : Contents M) (p : Publication) (base : List Entry) (log : Option (List Entry)) → contents.connections ≡ empty → holds contents.mirror p → log ≡ Some base
-    → Stands holds terms wanted (fresh p) base [] log empty contents 0
+    → Stands holds terms wanted (fresh_desk p) base [] log empty contents 0
 begins holds terms wanted contents p base log none held is = record {
   logged = is;
   ran = tt;

@@ -1,16 +1,16 @@
 -- What one connection is handed, by what happened alone.
 -- Source: this project.
 use Rattle.std.specs.Prelude.{◌≡◌, ℕ, List, ◌++◌}
-use Rattle.osm_desk.specs.Runs.{RespondAllOn, stood}
-use Rattle.osm_desk.specs.Told.{told}
+use Rattle.osm_desk.specs.Completions.{completions_of}
+use Rattle.osm_desk.specs.Runs.{RespondAllOn, lasting_happenings}
 use Rattle.osm_gate.specs.Terms.{Terms}
 use Rattle.osm_keys.specs.Publications.{Publication}
 use Rattle.osm_traffic.specs.Deeds.{Deed, in_order, is_fed, joined, last_word, sent}
 
--- the texts are, piece by piece, the responses to what connection c is told, where this publication is in force at first, and
--- queries are answered on these terms
+-- the texts are, piece by piece, the responses to what connection c completes, where this publication is in force at first,
+-- and queries are answered on these terms
 abbrev pub AreResponses : Terms → ℕ → Publication → List Deed → List (List ℕ) → Type 0
-AreResponses terms c p deeds texts = RespondAllOn terms (told c (stood (in_order deeds)) p) texts
+AreResponses terms c p deeds texts = RespondAllOn terms (completions_of c (lasting_happenings (in_order deeds)) p) texts
 
 -- what its socket took is a beginning of the responses, one after the other, and of the response that says so where memory
 -- has run out for it

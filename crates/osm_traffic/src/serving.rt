@@ -3,7 +3,7 @@
 ghost use Rattle.std.specs.FinMap.{empty, len};
 ghost use Rattle.std.specs.Prelude.{◌≡◌, ◌<◌, ◌↔◌, ◌+◌, ◌++◌, IfOk, IsTrue, List, OnErr, OnOk, Option, Some, true, if◌then◌else◌};
 ghost use Rattle.osm_desk.specs.Contents.{StandsFor};
-ghost use Rattle.osm_desk.specs.Desks.{fresh};
+ghost use Rattle.osm_desk.specs.Desks.{fresh_desk};
 ghost use Rattle.osm_keys.specs.Publications.{Publication};
 ghost use Rattle.osm_gate.specs.Terms.{terms_of};
 ghost use Rattle.osm_traffic.specs.Deeds.{Deed, Serves, arrivals, desk_after, log_of};
@@ -55,8 +55,8 @@ pub fn serve_many<M: Mirror, L: Lookout<M>, T: Traffic, E: Write>(
     ensures served { (p : Publication) (base : List Entry) → M.holds desk.old.mirror p
         → T.log traffic.old ≡ Some base
         → (deeds : List Deed) × (T.log traffic.new ≡ Some (log_of deeds ++ base))
-        × Serves (terms_of most M.may_fail) connections (fresh p) deeds
-        × StandsFor M.holds desk.new (desk_after (fresh p) deeds)
+        × Serves (terms_of most M.may_fail) connections (fresh_desk p) deeds
+        × StandsFor M.holds desk.new (desk_after (fresh_desk p) deeds)
         × OnOk result (arrivals deeds ≡ connections) }
     // What is in force has been made by what the lookout found, one after the other, but what was refused.
     ensures found { TakesFound (L.found lookout.old) (L.found lookout.new)

@@ -3,7 +3,7 @@ use Rattle.osm_desk.proofs.shared.FoundLemmas.{found_after, none_found}
 use Rattle.osm_gate.specs.Terms.{terms_of}
 use Rattle.osm_traffic.proofs.StandLemmas.{moved}
 use Rattle.std.specs.Prelude.{if◌then◌else◌}
-use Rattle.osm_desk.specs.Desks.{fresh}
+use Rattle.osm_desk.specs.Desks.{fresh_desk}
 use Rattle.osm_traffic.proofs.StandLemmas.{begins, serves, waits}
 use Rattle.osm_traffic.proofs.serving.serve_many.Goals as goal
 use Rattle.osm_traffic.proofs.serving.serve_many.Goals.{then-branch, else-branch}
@@ -30,8 +30,8 @@ loop-preserved g c =
       ];
       stands = λ p base held is.
           let (deeds, s) = c.loop.invariant.stands p base held is in
-          let t = waits g.M.Mirror.holds (terms_of c.args.most g.M.Mirror.may_fail) c.args.connections (fresh p) base deeds _ _ _ c.loop.taken s c.room_for-room.result c.room_for-room.ensures in
-          let (more, u) = c.in_ok-turn.ensures.stands c.args.connections (fresh p) base _ (moved g.M.Mirror.holds (terms_of c.args.most g.M.Mirror.may_fail) c.args.connections (fresh p) base _ _ _ _ _ _ _ c.loop.taken c.in_ok-news.ensures.told refl refl t) in
+          let t = waits g.M.Mirror.holds (terms_of c.args.most g.M.Mirror.may_fail) c.args.connections (fresh_desk p) base deeds _ _ _ c.loop.taken s c.room_for-room.result c.room_for-room.ensures in
+          let (more, u) = c.in_ok-turn.ensures.stands c.args.connections (fresh_desk p) base _ (moved g.M.Mirror.holds (terms_of c.args.most g.M.Mirror.may_fail) c.args.connections (fresh_desk p) base _ _ _ _ _ _ _ c.loop.taken c.in_ok-news.ensures.told refl refl t) in
           (more, rw next u);
       found = found_after g.M.Mirror.holds (g.L.Lookout.found c.args.lookout.now) (g.L.Lookout.found c.loop.lookout) (g.L.Lookout.found c.turn.new.lookout) c.args.desk.now.mirror c.loop.desk.mirror c.turn.new.desk.mirror c.loop.invariant.found c.in_ok-turn.ensures.found;
     }
@@ -49,8 +49,8 @@ returns-in_err-news-clause-served g c = λ p base held is.
 pub returns-in_err-turn-clause-served : goal.returns-in_err-turn-clause-served
 returns-in_err-turn-clause-served g c = λ p base held is.
     let (deeds, s) = c.loop.invariant.stands p base held is in
-    let t = waits g.M.Mirror.holds (terms_of c.args.most g.M.Mirror.may_fail) c.args.connections (fresh p) base deeds _ _ _ c.loop.taken s c.room_for-room.result c.room_for-room.ensures in
-    let (more, taken, u) = c.in_err-turn.ensures.refused c.args.connections (fresh p) base _ (moved g.M.Mirror.holds (terms_of c.args.most g.M.Mirror.may_fail) c.args.connections (fresh p) base _ _ _ _ _ _ _ c.loop.taken c.in_ok-news.ensures.told refl refl t) in
+    let t = waits g.M.Mirror.holds (terms_of c.args.most g.M.Mirror.may_fail) c.args.connections (fresh_desk p) base deeds _ _ _ c.loop.taken s c.room_for-room.result c.room_for-room.ensures in
+    let (more, taken, u) = c.in_err-turn.ensures.refused c.args.connections (fresh_desk p) base _ (moved g.M.Mirror.holds (terms_of c.args.most g.M.Mirror.may_fail) c.args.connections (fresh_desk p) base _ _ _ _ _ _ _ c.loop.taken c.in_ok-news.ensures.told refl refl t) in
     (more, u.logged, serves g.M.Mirror.holds (terms_of c.args.most g.M.Mirror.may_fail) c.args.connections _ base more _ _ _ _ u, u.desk, search rules)
 
 pub returns-in_err-turn-clause-found : goal.returns-in_err-turn-clause-found

@@ -1,4 +1,4 @@
--- What a desk tells a connection.
+-- The completions of a connection, and those in what a desk replies.
 use Rattle.std.proofs.Common.{◌≡◌, ◌∙◌, ◌<◌, ℕ, Bool, true, false, List, [], ◌∷◌, ◌++◌, ap, sym, refl, arith, length, drop, subst}
 use Rattle.std.proofs.Math.Seq.{drop-append_seam}
 use Rattle.std.proofs.lemmas.Bool.{eq-eqb, eqb-false, eqb-true, lt-ltb}
@@ -9,56 +9,56 @@ use Rattle.osm_gate.proofs.shared.Pieces.{pieces}
 use Rattle.osm_gate.specs.Connections.{Requests, Rest, requests_in, requests_next, open_rest}
 use Rattle.osm_keys.specs.Publications.{Publication}
 use Rattle.osm_index.specs.declared.apply_fault.ApplyFault.{ApplyFault}
-use Rattle.osm_desk.specs.Desks.{Desk, Step, Told, arrive_step, end_step, fresh, open_step, publish_step, quietly, refuse, replies, step}
+use Rattle.osm_desk.specs.Completions.{FindsRoom, MeetsRoom, all_completions_in, completions_from, completions_in, completions_with, in_force, life_opened, life_with, own_happenings, requests_completed}
+use Rattle.osm_desk.specs.Desks.{Completion, Desk, Step, arrive_step, end_step, fresh_desk, open_step, publish_step, refuse, replies, silent_step, step}
 use Rattle.osm_desk.specs.Happenings.{Happening, arrived, ended, opened, published}
-use Rattle.osm_desk.specs.Told.{FindsRoom, MeetsRoom, alone, begun, ending, given, given_by, in_force, longer, told_from, told_piece}
 use Rattle.osm_desk.specs.declared.desk_fault.DeskFault.TheVariants.{NoRoom}
 use Rattle.osm_desk.specs.declared.limits.TheConstants.{CONNECTION_LIMIT}
 use Rattle.osm_desk.proofs.MapLemmas.{get-put_other, get-put_same, get-removed_other, get-removed_same, len-removed_none}
 
 -- ---- the events of the others
 
-alone-open : (c n : ℕ) (p : Publication) (life : Option (List ℕ)) (es : List Happening)
-    → ((p : Publication) (life : Option (List ℕ)) → told_from c p life es ≡ told_from c p life (alone c es))
+own_happenings-open : (c n : ℕ) (p : Publication) (life : Option (List ℕ)) (es : List Happening)
+    → ((p : Publication) (life : Option (List ℕ)) → completions_from c p life es ≡ completions_from c p life (own_happenings c es))
     → (b : Bool) → (n == c) ≡ b
-    → told_from c p life (opened n ∷ es) ≡ told_from c p life (alone c (opened n ∷ es))
-alone-open c n p life es again true e =
-    ap (λ b. told_from c p (if b then begun life else life) es) e
-    ∙ again p (begun life)
-    ∙ sym (ap (λ b. told_from c p (if b then begun life else life) (alone c es)) e)
-    ∙ sym (ap (λ b. told_from c p life (if b then opened n ∷ alone c es else alone c es)) e)
-alone-open c n p life es again false e =
-    ap (λ b. told_from c p (if b then begun life else life) es) e
+    → completions_from c p life (opened n ∷ es) ≡ completions_from c p life (own_happenings c (opened n ∷ es))
+own_happenings-open c n p life es again true e =
+    ap (λ b. completions_from c p (if b then life_opened life else life) es) e
+    ∙ again p (life_opened life)
+    ∙ sym (ap (λ b. completions_from c p (if b then life_opened life else life) (own_happenings c es)) e)
+    ∙ sym (ap (λ b. completions_from c p life (if b then opened n ∷ own_happenings c es else own_happenings c es)) e)
+own_happenings-open c n p life es again false e =
+    ap (λ b. completions_from c p (if b then life_opened life else life) es) e
     ∙ again p life
-    ∙ sym (ap (λ b. told_from c p life (if b then opened n ∷ alone c es else alone c es)) e)
+    ∙ sym (ap (λ b. completions_from c p life (if b then opened n ∷ own_happenings c es else own_happenings c es)) e)
 
-alone-arrive : (c n : ℕ) (piece : List ℕ) (p : Publication) (life : Option (List ℕ)) (es : List Happening)
-    → ((p : Publication) (life : Option (List ℕ)) → told_from c p life es ≡ told_from c p life (alone c es))
+own_happenings-arrive : (c n : ℕ) (piece : List ℕ) (p : Publication) (life : Option (List ℕ)) (es : List Happening)
+    → ((p : Publication) (life : Option (List ℕ)) → completions_from c p life es ≡ completions_from c p life (own_happenings c es))
     → (b : Bool) → (n == c) ≡ b
-    → told_from c p life (arrived n piece ∷ es) ≡ told_from c p life (alone c (arrived n piece ∷ es))
-alone-arrive c n piece p life es again true e = simp e (ap (told_piece p life piece) (again p (longer life piece)))
-alone-arrive c n piece p life es again false e = simp e (again p life)
+    → completions_from c p life (arrived n piece ∷ es) ≡ completions_from c p life (own_happenings c (arrived n piece ∷ es))
+own_happenings-arrive c n piece p life es again true e = simp e (ap (completions_with p life piece) (again p (life_with life piece)))
+own_happenings-arrive c n piece p life es again false e = simp e (again p life)
 
-alone-end : (c n : ℕ) (p : Publication) (life : Option (List ℕ)) (es : List Happening)
-    → ((p : Publication) (life : Option (List ℕ)) → told_from c p life es ≡ told_from c p life (alone c es))
+own_happenings-end : (c n : ℕ) (p : Publication) (life : Option (List ℕ)) (es : List Happening)
+    → ((p : Publication) (life : Option (List ℕ)) → completions_from c p life es ≡ completions_from c p life (own_happenings c es))
     → (b : Bool) → (n == c) ≡ b
-    → told_from c p life (ended n ∷ es) ≡ told_from c p life (alone c (ended n ∷ es))
-alone-end c n p life es again true e =
-    ap (λ b. told_from c p (if b then None else life) es) e
+    → completions_from c p life (ended n ∷ es) ≡ completions_from c p life (own_happenings c (ended n ∷ es))
+own_happenings-end c n p life es again true e =
+    ap (λ b. completions_from c p (if b then None else life) es) e
     ∙ again p None
-    ∙ sym (ap (λ b. told_from c p (if b then None else life) (alone c es)) e)
-    ∙ sym (ap (λ b. told_from c p life (if b then ended n ∷ alone c es else alone c es)) e)
-alone-end c n p life es again false e =
-    ap (λ b. told_from c p (if b then None else life) es) e
+    ∙ sym (ap (λ b. completions_from c p (if b then None else life) (own_happenings c es)) e)
+    ∙ sym (ap (λ b. completions_from c p life (if b then ended n ∷ own_happenings c es else own_happenings c es)) e)
+own_happenings-end c n p life es again false e =
+    ap (λ b. completions_from c p (if b then None else life) es) e
     ∙ again p life
-    ∙ sym (ap (λ b. told_from c p life (if b then ended n ∷ alone c es else alone c es)) e)
+    ∙ sym (ap (λ b. completions_from c p life (if b then ended n ∷ own_happenings c es else own_happenings c es)) e)
 
-pub told-alone : (c : ℕ) (hs : List Happening) (p : Publication) (life : Option (List ℕ)) → told_from c p life hs ≡ told_from c p life (alone c hs)
-told-alone c [] p life = refl
-told-alone c (opened n ∷ es) p life = alone-open c n p life es (told-alone c es) (n == c) refl
-told-alone c (arrived n piece ∷ es) p life = alone-arrive c n piece p life es (told-alone c es) (n == c) refl
-told-alone c (ended n ∷ es) p life = alone-end c n p life es (told-alone c es) (n == c) refl
-told-alone c (published made ∷ es) p life = told-alone c es (in_force p made) life
+pub completions_from-own_happenings : (c : ℕ) (hs : List Happening) (p : Publication) (life : Option (List ℕ)) → completions_from c p life hs ≡ completions_from c p life (own_happenings c hs)
+completions_from-own_happenings c [] p life = refl
+completions_from-own_happenings c (opened n ∷ es) p life = own_happenings-open c n p life es (completions_from-own_happenings c es) (n == c) refl
+completions_from-own_happenings c (arrived n piece ∷ es) p life = own_happenings-arrive c n piece p life es (completions_from-own_happenings c es) (n == c) refl
+completions_from-own_happenings c (ended n ∷ es) p life = own_happenings-end c n p life es (completions_from-own_happenings c es) (n == c) refl
+completions_from-own_happenings c (published made ∷ es) p life = completions_from-own_happenings c es (in_force p made) life
 
 -- ---- what a desk gives
 
@@ -70,41 +70,41 @@ abbrev kept : Option (List ℕ) → Option Rest
 kept life = option_map rest_after life
 
 -- the requests that end in a piece are those that the rest hears with it
-ending-next : (bytes piece : List ℕ) → ending bytes piece ≡ (requests_next (rest_after bytes) piece).complete
-ending-next bytes piece =
+requests_completed-next : (bytes piece : List ℕ) → requests_completed bytes piece ≡ (requests_next (rest_after bytes) piece).complete
+requests_completed-next bytes piece =
     ap (λ (s : Requests). drop (length (requests_in bytes).complete) s.complete) (pieces bytes piece)
     ∙ drop-append_seam (requests_in bytes).complete (requests_next (rest_after bytes) piece).complete
 
 rest-next : (bytes piece : List ℕ) → rest_after (bytes ++ piece) ≡ (requests_next (rest_after bytes) piece).rest
 rest-next bytes piece = ap (λ (s : Requests). s.rest) (pieces bytes piece)
 
--- a step gives c what it is told, and keeps what is left of its life
+-- a step gives c what it completes, and keeps what is left of its life
 record MovesTo (c : ℕ) (d : Desk) (life : Option (List ℕ)) (e : Happening) (s : Step) : Type 0 where
-  front : List Told
+  front : List Completion
   next : Option (List ℕ)
-  gives : given_by c s.reply ≡ front
+  gives : completions_in c s.reply ≡ front
   keeps : get s.desk.connections c ≡ kept next
-  tells : (es : List Happening) → told_from c d.publication life (e ∷ es) ≡ front ++ told_from c s.desk.publication next es
+  tells : (es : List Happening) → completions_from c d.publication life (e ∷ es) ≡ front ++ completions_from c s.desk.publication next es
 
 -- a step that is no matter of c
 record Quiet (c : ℕ) (d : Desk) (s : Step) : Type 0 where
-  nothing : given_by c s.reply ≡ []
+  nothing : completions_in c s.reply ≡ []
   same : get s.desk.connections c ≡ get d.connections c
   same_publication : s.desk.publication ≡ d.publication
 
 quiet-moves : (c : ℕ) (d : Desk) (life : Option (List ℕ)) (e : Happening) (s : Step) → get d.connections c ≡ kept life → Quiet c d s
-    → ((es : List Happening) → told_from c d.publication life (e ∷ es) ≡ told_from c d.publication life es) → MovesTo c d life e s
+    → ((es : List Happening) → completions_from c d.publication life (e ∷ es) ≡ completions_from c d.publication life es) → MovesTo c d life e s
 quiet-moves c d life e s h q tells = record {
   front = [];
   next = life;
   gives = q.nothing;
   keeps = q.same ∙ h;
-  tells = λ es. tells es ∙ ap (λ p. told_from c p life es) (sym q.same_publication);
+  tells = λ es. tells es ∙ ap (λ p. completions_from c p life es) (sym q.same_publication);
 }
 
 quiet-open : (c n : ℕ) (d : Desk) (apart : n ≡ c → ⊥) (o : Option Rest) → Quiet c d (open_step d n o)
 quiet-open c n d apart (Some r) = record { nothing = refl; same = refl; same_publication = refl }
-quiet-open c n d apart None = elim (nat_lt (len d.connections) CONNECTION_LIMIT) as (λ b. Quiet c d (if b then quietly d.publication (insert d.connections n (open_rest [])) else refuse d NoRoom)) [
+quiet-open c n d apart None = elim (nat_lt (len d.connections) CONNECTION_LIMIT) as (λ b. Quiet c d (if b then silent_step d.publication (insert d.connections n (open_rest [])) else refuse d NoRoom)) [
   | true ↦ record { nothing = refl; same = get-put_other d.connections n (open_rest []) c apart; same_publication = refl }
   | false ↦ record { nothing = refl; same = refl; same_publication = refl }
 ]
@@ -112,7 +112,7 @@ quiet-open c n d apart None = elim (nat_lt (len d.connections) CONNECTION_LIMIT)
 quiet-arrive : (c n : ℕ) (piece : List ℕ) (d : Desk) (apart : n ≡ c → ⊥) → (n == c) ≡ false → (o : Option Rest) → Quiet c d (arrive_step d n piece o)
 quiet-arrive c n piece d apart e None = record { nothing = refl; same = refl; same_publication = refl }
 quiet-arrive c n piece d apart e (Some r) = record {
-  nothing = ap (λ b. if b then (let t : Told = record { requests = (requests_next r piece).complete; publication = d.publication } in t) ∷ [] else []) e;
+  nothing = ap (λ b. if b then (let t : Completion = record { requests = (requests_next r piece).complete; publication = d.publication } in t) ∷ [] else []) e;
   same = get-put_other d.connections n (requests_next r piece).rest c apart;
   same_publication = refl;
 }
@@ -128,13 +128,13 @@ open-own : (c : ℕ) (d : Desk) (life : Option (List ℕ)) → get d.connections
 open-own c d None h room =
     let few : len d.connections < CONNECTION_LIMIT = omega (arith, room, len-removed_none d.connections c h) in
     let is = ap (open_step d c) h
-    ∙ ap (λ b. if b then quietly d.publication (insert d.connections c (open_rest [])) else refuse d NoRoom) (lt-ltb (len d.connections) CONNECTION_LIMIT few) in
+    ∙ ap (λ b. if b then silent_step d.publication (insert d.connections c (open_rest [])) else refuse d NoRoom) (lt-ltb (len d.connections) CONNECTION_LIMIT few) in
     subst (MovesTo c d None (opened c)) (sym is) (record {
       front = [];
       next = Some [];
       gives = refl;
       keeps = get-put_same d.connections c (open_rest []);
-      tells = λ es. ap (λ b. told_from c d.publication (if b then Some [] else None) es) (own c);
+      tells = λ es. ap (λ b. completions_from c d.publication (if b then Some [] else None) es) (own c);
     })
 open-own c d (Some bytes) h room =
     subst (MovesTo c d (Some bytes) (opened c)) (sym (ap (open_step d c) h)) (record {
@@ -142,7 +142,7 @@ open-own c d (Some bytes) h room =
       next = Some bytes;
       gives = refl;
       keeps = h;
-      tells = λ es. ap (λ b. told_from c d.publication (if b then Some bytes else Some bytes) es) (own c);
+      tells = λ es. ap (λ b. completions_from c d.publication (if b then Some bytes else Some bytes) es) (own c);
     })
 
 arrive-own : (c : ℕ) (piece : List ℕ) (d : Desk) (life : Option (List ℕ)) → get d.connections c ≡ kept life → MovesTo c d life (arrived c piece) (step d (arrived c piece))
@@ -152,18 +152,18 @@ arrive-own c piece d None h =
       next = None;
       gives = refl;
       keeps = h;
-      tells = λ es. ap (λ b. if b then told_from c d.publication None es else told_from c d.publication None es) (own c);
+      tells = λ es. ap (λ b. if b then completions_from c d.publication None es else completions_from c d.publication None es) (own c);
     })
 arrive-own c piece d (Some bytes) h =
-    let given_now : Told = record { requests = (requests_next (rest_after bytes) piece).complete; publication = d.publication } in
+    let completion : Completion = record { requests = (requests_next (rest_after bytes) piece).complete; publication = d.publication } in
     subst (MovesTo c d (Some bytes) (arrived c piece)) (sym (ap (arrive_step d c piece) h)) (record {
-      front = given_now ∷ [];
+      front = completion ∷ [];
       next = Some (bytes ++ piece);
-      gives = ap (λ b. if b then given_now ∷ [] else []) (own c);
+      gives = ap (λ b. if b then completion ∷ [] else []) (own c);
       keeps = get-put_same d.connections c (requests_next (rest_after bytes) piece).rest ∙ ap (λ (r : Rest). Some r) (sym (rest-next bytes piece));
       tells = λ es.
-          ap (λ b. if b then told_piece d.publication (Some bytes) piece (told_from c d.publication (Some (bytes ++ piece)) es) else told_from c d.publication (Some bytes) es) (own c)
-          ∙ ap (λ os. (let t : Told = record { requests = os; publication = d.publication } in t) ∷ told_from c d.publication (Some (bytes ++ piece)) es) (ending-next bytes piece);
+          ap (λ b. if b then completions_with d.publication (Some bytes) piece (completions_from c d.publication (Some (bytes ++ piece)) es) else completions_from c d.publication (Some bytes) es) (own c)
+          ∙ ap (λ os. (let t : Completion = record { requests = os; publication = d.publication } in t) ∷ completions_from c d.publication (Some (bytes ++ piece)) es) (requests_completed-next bytes piece);
     })
 
 end-own : (c : ℕ) (d : Desk) (life : Option (List ℕ)) → get d.connections c ≡ kept life → MovesTo c d life (ended c) (step d (ended c))
@@ -173,7 +173,7 @@ end-own c d None h =
       next = None;
       gives = refl;
       keeps = h;
-      tells = λ es. ap (λ b. told_from c d.publication (if b then None else None) es) (own c);
+      tells = λ es. ap (λ b. completions_from c d.publication (if b then None else None) es) (own c);
     })
 end-own c d (Some bytes) h =
     subst (MovesTo c d (Some bytes) (ended c)) (sym (ap (end_step d c) h)) (record {
@@ -181,11 +181,11 @@ end-own c d (Some bytes) h =
       next = None;
       gives = refl;
       keeps = get-removed_same d.connections c;
-      tells = λ es. ap (λ b. told_from c d.publication (if b then None else Some bytes) es) (own c);
+      tells = λ es. ap (λ b. completions_from c d.publication (if b then None else Some bytes) es) (own c);
     })
 
 published-moves : (c : ℕ) (d : Desk) (life : Option (List ℕ)) (r : Result Publication ApplyFault) → get d.connections c ≡ kept life
-    → (given_by c (publish_step d r).reply ≡ []) × (get (publish_step d r).desk.connections c ≡ kept life) × (in_force d.publication r ≡ (publish_step d r).desk.publication)
+    → (completions_in c (publish_step d r).reply ≡ []) × (get (publish_step d r).desk.connections c ≡ kept life) × (in_force d.publication r ≡ (publish_step d r).desk.publication)
 published-moves c d life (Err fault) h = (refl, h, refl)
 published-moves c d life (Ok new) h = (refl, h, refl)
 
@@ -202,17 +202,17 @@ moves : (c : ℕ) (d : Desk) (life : Option (List ℕ)) (e : Happening) → get 
 moves c d life (opened n) h room = by-number c n d life (λ k. opened k)
     (λ same. open-own c d life h (room same))
     (λ apart is. quiet-moves c d life (opened n) (step d (opened n)) h (quiet-open c n d apart (get d.connections n))
-    (λ es. ap (λ b. told_from c d.publication (if b then begun life else life) es) is))
+    (λ es. ap (λ b. completions_from c d.publication (if b then life_opened life else life) es) is))
     (n == c) refl
 moves c d life (arrived n piece) h room = by-number c n d life (λ k. arrived k piece)
     (λ same. arrive-own c piece d life h)
     (λ apart is. quiet-moves c d life (arrived n piece) (step d (arrived n piece)) h (quiet-arrive c n piece d apart is (get d.connections n))
-    (λ es. ap (λ b. if b then told_piece d.publication life piece (told_from c d.publication (longer life piece) es) else told_from c d.publication life es) is))
+    (λ es. ap (λ b. if b then completions_with d.publication life piece (completions_from c d.publication (life_with life piece) es) else completions_from c d.publication life es) is))
     (n == c) refl
 moves c d life (ended n) h room = by-number c n d life (λ k. ended k)
     (λ same. end-own c d life h)
     (λ apart is. quiet-moves c d life (ended n) (step d (ended n)) h (quiet-end c n d apart (get d.connections n))
-    (λ es. ap (λ b. told_from c d.publication (if b then None else life) es) is))
+    (λ es. ap (λ b. completions_from c d.publication (if b then None else life) es) is))
     (n == c) refl
 moves c d life (published made) h room =
     let (nothing, keeps, now) = published-moves c d life made h in
@@ -221,17 +221,17 @@ moves c d life (published made) h room =
       next = life;
       gives = nothing;
       keeps = keeps;
-      tells = λ es. ap (λ p. told_from c p life es) now;
+      tells = λ es. ap (λ p. completions_from c p life es) now;
     }
 
-given-from : (c : ℕ) (hs : List Happening) (d : Desk) (life : Option (List ℕ)) → get d.connections c ≡ kept life → FindsRoom c d hs
-    → given c (replies d hs) ≡ told_from c d.publication life hs
-given-from c [] d life h room = refl
-given-from c (e ∷ es) d life h room =
+all_completions_in-replies_from : (c : ℕ) (hs : List Happening) (d : Desk) (life : Option (List ℕ)) → get d.connections c ≡ kept life → FindsRoom c d hs
+    → all_completions_in c (replies d hs) ≡ completions_from c d.publication life hs
+all_completions_in-replies_from c [] d life h room = refl
+all_completions_in-replies_from c (e ∷ es) d life h room =
     let m = moves c d life e h room.0 in
-    ap (λ front. front ++ given c (replies (step d e).desk es)) m.gives
-    ∙ ap (λ later. m.front ++ later) (given-from c es (step d e).desk m.next m.keeps room.1)
+    ap (λ front. front ++ all_completions_in c (replies (step d e).desk es)) m.gives
+    ∙ ap (λ later. m.front ++ later) (all_completions_in-replies_from c es (step d e).desk m.next m.keeps room.1)
     ∙ sym (m.tells es)
 
-pub given-told : (c : ℕ) (hs : List Happening) (p : Publication) → FindsRoom c (fresh p) hs → given c (replies (fresh p) hs) ≡ told_from c p None hs
-given-told c hs p room = given-from c hs (fresh p) None (get-empty nat_cmp c) room
+pub all_completions_in-replies : (c : ℕ) (hs : List Happening) (p : Publication) → FindsRoom c (fresh_desk p) hs → all_completions_in c (replies (fresh_desk p) hs) ≡ completions_from c p None hs
+all_completions_in-replies c hs p room = all_completions_in-replies_from c hs (fresh_desk p) None (get-empty nat_cmp c) room
