@@ -1,6 +1,6 @@
 """Words after `osm_mirror` that name no job, and what is told of them on standard error."""
 
-from runs import PROGRAM, Outcome, Tally, run
+from runs import PROGRAM, TOP, Outcome, Tally, run
 
 # Lines of words with one space between two, and how the text of clap begins that is told of them.
 OF_CLAP = [
@@ -166,8 +166,6 @@ OF_CLAP = [
         "  relay    Answers programs on this machine as an Overpass server does, with what a mirror has proved\n"
         "  explain  Prints what a code means, where it is told and what to do about it\n",
     ),
-    ("--version", "osm_mirror 0.1.0 (edition 2, rattle-kit-"),
-    ("-V", "osm_mirror 0.1.0 (edition 2, rattle-kit-"),
     (
         "ask -h",
         "Answers a query over the OPL text on standard input, after checking the answer\n"
@@ -333,10 +331,20 @@ def check_clap(tally, line, begins):
     tally.check(f"osm_mirror {line}", holds, outcome)
 
 
+def version_line():
+    """What the program says of its version: the newest one of the changelog, the edition that commands take unless told
+    otherwise, and the sum of the toolchain's logic."""
+    version = run([TOP / "packaging/version"]).stdout.decode().strip()
+    logic = run(["rt", "version"]).stdout.decode().rpartition(" ")[2].strip()
+    return f"osm_mirror {version} (edition 2, logic {logic})\n".encode()
+
+
 def main():
     tally = Tally()
     for line, begins in OF_CLAP:
         check_clap(tally, line, begins)
+    for line in ["--version", "-V"]:
+        check_told(tally, line, version_line())
     for command in ["publish a.opl", "prove a.opl b c d", "serve a.opl 80"]:
         for word in ["3", "", "two", "0", "01", "+1", "12", "1.0"]:
             check_told(tally, f"{command} --edition {word}", b"bad edition\n")

@@ -24,8 +24,8 @@ use std::alloc::{AllocError, Global};
 const ABOUT: &str = "Answers OpenStreetMap queries, and proves and checks the answers";
 
 /// What `--version` prints after the program's name: the version, the edition that commands take unless told otherwise,
-/// and the kit that the program is proved with.
-const VERSION: &str = "0.1.0 (edition 2, rattle-kit-13f logic dac8208d650f15bf)";
+/// and the sum of the logic in which the program is proved. (Kits of several names have the same logic.)
+const VERSION: &str = "0.1.0 (edition 2, logic dac8208d650f15bf)";
 
 /// The command line of the program: one level of commands, of which one has to be there. `--help`, `-h`,
 /// `--version` and `-V` are `clap`'s; there is no command `help`.
