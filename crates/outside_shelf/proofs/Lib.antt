@@ -1,4 +1,5 @@
 mod BroughtLemmas
 mod CopyLemmas
 mod PartLemmas
+mod StockedLemmas
 mod TogetherLemmas
