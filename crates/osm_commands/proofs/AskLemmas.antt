@@ -116,6 +116,24 @@ outside_unproved form (Some file) edition query refusal (Ok done) told only = λ
 outside_unproved form (Some file) edition query refusal (Err other) told only = λ text answer.
     subst (IsOutsideOrTrees answer.set edition) (sym (told ∙ ap fault_of_prove (only answer.statements answer.reads))) tt
 
+-- ---- an answer that isn't made
+
+-- where memory runs out, that is why
+pub explained_memory : (known left : Option (List ℕ)) (edition : Edition) (query : List ℕ) (result : Result (Unit {0}) CommandFault)
+    → IsErrAnd result (λ fault. fault ≡ Memory)
+    → IfSome known (λ file. IfErr result (Explains file left edition query))
+explained_memory None left edition query result memory = tt
+explained_memory (Some file) left edition query (Ok done) memory = tt
+explained_memory (Some file) left edition query (Err fault) memory = subst (Explains file left edition query) (sym memory) tt
+
+-- and that lies outside
+pub outside_memory : (form : Form) (known : Option (List ℕ)) (edition : Edition) (query : List ℕ) (result : Result (Unit {0}) CommandFault)
+    → IsErrAnd result (λ fault. fault ≡ Memory)
+    → IfSome known (λ file. (document : List ℕ) (answer : IsAnswer form file query document) → IfErr result (IsOutsideOrTrees answer.set edition))
+outside_memory form None edition query result memory = tt
+outside_memory form (Some file) edition query (Ok done) memory = λ text answer. tt
+outside_memory form (Some file) edition query (Err fault) memory = λ text answer. subst (IsOutsideOrTrees answer.set edition) (sym memory) tt
+
 -- ---- an answer that isn't written
 
 -- where a writer fails, a device has failed

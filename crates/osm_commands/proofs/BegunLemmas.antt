@@ -1,5 +1,5 @@
 -- What `prove`, `ask` and `check` have written where they end.
-use Rattle.std.proofs.Common.{◌≡◌, ◌≢◌, ◌⊎◌, ℕ, List, Option, None, Some, Result, Ok, Err, IfErr, IfSome, OnOk, ap, inl, inr, subst, sym, take, ◌∙◌}
+use Rattle.std.proofs.Common.{◌≡◌, ◌≢◌, ◌⊎◌, ℕ, List, Option, None, Some, Result, Ok, Err, IfErr, IfSome, IsErrAnd, OnOk, ap, inl, inr, subst, sym, take, ◌∙◌}
 use Rattle.std.proofs.KnownBytes.{Keeps-refl}
 use Rattle.std.specs.Io.KnownBytes.{Appends, Keeps}
 use Rattle.tree_node.specs.Outcomes.{Clash}
@@ -22,6 +22,23 @@ use Rattle.osm_commands.specs.Written.{AppendInTurn, Output, UpToFirst, UpToSeco
 use Rattle.osm_commands.proofs.QueryLemmas.{proved_same, same_proved, same_verdict}
 use Rattle.osm_commands.specs.declared.command_fault.CommandFault.{CommandFault}
 use Rattle.osm_commands.specs.declared.command_fault.CommandFault.TheVariants.{Device}
+
+-- ---- one writer
+
+-- nothing is written, whatever the result
+pub kept_output : {X : Type 0} (output : Option (List ℕ)) (result : Result X CommandFault) → IfErr result (λ fault. fault ≢ Device → Keeps output output)
+kept_output output (Ok done) = tt
+kept_output output (Err fault) = λ other. Keeps-refl output
+
+-- where a device fails, anything may be written
+pub device_writes : {X : Type 0} (Written : Type 0) (result : Result X CommandFault) → IfErr result (λ fault. fault ≡ Device) → IfErr result (λ fault. fault ≢ Device → Written)
+device_writes Written (Ok done) device = tt
+device_writes Written (Err fault) device = λ other. absurd (other device)
+
+-- such a fault is told as it came
+pub device_told : {X : Type 0} (result : Result X CommandFault) (fault : CommandFault) → IsErrAnd result (λ told. told ≡ fault) → fault ≡ Device → IfErr result (λ told. told ≡ Device)
+device_told (Ok done) fault told is = tt
+device_told (Err other) fault told is = told ∙ is
 
 -- ---- `prove`
 
@@ -117,6 +134,11 @@ written_whole (Some file) (Some bytes) edition p w v l text nodes a b c d e f (O
 
 -- ---- `ask`
 
+-- nothing is written
+pub unwritten_answer : (form : Form) (known : Option (List ℕ)) (query : List ℕ) (output : Option (List ℕ)) → IfSome known (λ file. IsBegun form file query output output)
+unwritten_answer form None query output = tt
+unwritten_answer form (Some file) query output = inl (Keeps-refl output)
+
 -- a beginning of it is written
 pub begun_answer : (form : Form) (known : Option (List ℕ)) (query document : List ℕ) (old new : Option (List ℕ))
     → IfSome known (λ file. IsAnswer form file query document) → AppendsFront old new document → IfSome known (λ file. IsBegun form file query old new)
@@ -180,6 +202,13 @@ headline_told first second third root query answer proof x y z verdict told resu
       | inr clash ↦ inr clash
     ]) e f g q a n
     (λ p report is same yes. let yes_verdict : verdict ≡ Yes report = cc in says p report is same (t ∙ ap (λ (v : Verdict). Ok v) yes_verdict))
+
+-- nothing is written
+pub unwritten_verdict : (first second third : Option (List ℕ)) (root : List ℕ) (output : Option (List ℕ)) → IfThree first second third (λ q a p. IsBegunVerdict q root a p output output)
+unwritten_verdict None second third root output = tt
+unwritten_verdict (Some _) None third root output = tt
+unwritten_verdict (Some _) (Some _) None root output = tt
+unwritten_verdict (Some _) (Some _) (Some _) root output = inl (Keeps-refl output)
 
 -- a beginning of its line is written
 pub begun_verdict : (first second third : Option (List ℕ)) (root line : List ℕ) (verdict : Verdict) (old new : Option (List ℕ))

@@ -1,6 +1,7 @@
 pub mod AskLemmas
 pub mod BegunLemmas
 pub mod BudgetLemmas
+pub mod CheckLemmas
 pub mod DocumentLemmas
 pub mod FileLemmas
 pub mod FrontLemmas

@@ -1,8 +1,8 @@
 use Rattle.std.proofs.Common.{List, ℕ, Err, ap, sym, subst}
 use Rattle.osm_prove.specs.Proved.{IsProved}
 use Rattle.osm_commands.specs.Ask.{ask_edition}
-use Rattle.osm_commands.proofs.AskLemmas.{explained_unmade, explained_unproved, explained_unwritten, outside_unmade, outside_unproved, outside_unwritten, in_form, no_work, told_is, trees_held}
-use Rattle.osm_commands.proofs.BegunLemmas.{begun_answer, whole_answer}
+use Rattle.osm_commands.proofs.AskLemmas.{explained_memory, explained_unmade, explained_unproved, explained_unwritten, outside_memory, outside_unmade, outside_unproved, outside_unwritten, in_form, no_work, told_is, trees_held}
+use Rattle.osm_commands.proofs.BegunLemmas.{begun_answer, device_writes, kept_output, unwritten_answer, whole_answer}
 use Rattle.osm_commands.proofs.ask_command.ask.Goals as goal
 
 pub returns-in_err-snapshot-clause-only : goal.returns-in_err-snapshot-clause-only
@@ -63,3 +63,34 @@ returns-clause-only g c = outside_unwritten c.args.form (g.R.Read.remaining c.ar
 
 pub returns-clause-refused : goal.returns-clause-refused
 returns-clause-refused g c = explained_unwritten (g.R.Read.remaining c.args.input.now) _ ask_edition c.args.query.now c.write_document.result c.write_document.ensures.device
+
+pub returns-in_err-text-clause-only : goal.returns-in_err-text-clause-only
+returns-in_err-text-clause-only g c = outside_memory c.args.form (g.R.Read.remaining c.args.input.now) ask_edition c.args.query.now c.from_residual-in_err-text.result c.from_residual-in_err-text.ensures.1
+
+pub returns-in_err-text-clause-refused : goal.returns-in_err-text-clause-refused
+returns-in_err-text-clause-refused g c = explained_memory (g.R.Read.remaining c.args.input.now) _ ask_edition c.args.query.now c.from_residual-in_err-text.result c.from_residual-in_err-text.ensures.1
+
+-- ---- nothing is written yet
+
+pub returns-in_err-snapshot-clause-nothing : goal.returns-in_err-snapshot-clause-nothing
+returns-in_err-snapshot-clause-nothing g c = kept_output (g.W.Write.contents c.args.output.now) c.from_residual.result
+
+pub returns-in_err-snapshot-clause-begun : goal.returns-in_err-snapshot-clause-begun
+returns-in_err-snapshot-clause-begun g c = unwritten_answer c.args.form (g.R.Read.remaining c.args.input.now) c.args.query.now (g.W.Write.contents c.args.output.now)
+
+pub returns-in_err-proved-clause-nothing : goal.returns-in_err-proved-clause-nothing
+returns-in_err-proved-clause-nothing g c = kept_output (g.W.Write.contents c.args.output.now) c.from_residual-in_err-proved.result
+
+pub returns-in_err-proved-clause-begun : goal.returns-in_err-proved-clause-begun
+returns-in_err-proved-clause-begun g c = unwritten_answer c.args.form (g.R.Read.remaining c.args.input.now) c.args.query.now (g.W.Write.contents c.args.output.now)
+
+pub returns-in_err-text-clause-nothing : goal.returns-in_err-text-clause-nothing
+returns-in_err-text-clause-nothing g c = kept_output (g.W.Write.contents c.args.output.now) c.from_residual-in_err-text.result
+
+pub returns-in_err-text-clause-begun : goal.returns-in_err-text-clause-begun
+returns-in_err-text-clause-begun g c = unwritten_answer c.args.form (g.R.Read.remaining c.args.input.now) c.args.query.now (g.W.Write.contents c.args.output.now)
+
+-- ---- the answer is written, as far as it went
+
+pub returns-clause-nothing : goal.returns-clause-nothing
+returns-clause-nothing g c = device_writes _ c.write_document.result c.write_document.ensures.device

@@ -7,7 +7,7 @@ use Rattle.osm_prove.specs.declared.prove_fault.ProveFault.TheVariants as refusa
 use Rattle.osm_commands.specs.RootLines.{digest_line}
 use Rattle.osm_commands.specs.declared.command_fault.CommandFault.TheVariants.{Memory}
 use Rattle.osm_commands.proofs.AskLemmas.{explained_unmade, explained_unproved, no_work, outside_unmade, outside_unproved, trees_held}
-use Rattle.osm_commands.proofs.BegunLemmas.{begun_kept, gained_kept, kept, unwritten, proved_files, answer_begun, proof_begun, root_begun, written_in_turn, written_whole}
+use Rattle.osm_commands.proofs.BegunLemmas.{begun_kept, device_told, device_writes, gained_kept, kept, unwritten, proved_files, answer_begun, proof_begun, root_begun, written_in_turn, written_whole}
 use Rattle.osm_commands.proofs.FileLemmas.{device_failed, explained_failed, explained_files, explained_unread, failed, outside_failed, outside_files, outside_unread, same_read, unread}
 use Rattle.osm_commands.proofs.prove_command.prove.Goals as goal
 
@@ -172,3 +172,62 @@ returns-in_err-put_both_in_place-clause-only g c =
 pub returns-in_err-put_both_in_place-clause-refused : goal.returns-in_err-put_both_in_place-clause-refused
 returns-in_err-put_both_in_place-clause-refused g c =
     explained_failed (g.R.Read.remaining c.args.input.now) _ (g.Q.Read.remaining c.args.query.now) c.args.edition c.from_residual-in_err-put_both_in_place.result (failed c.from_residual-in_err-put_both_in_place.result c.in_err-put_both_in_place.field-0.0 c.from_residual-in_err-put_both_in_place.ensures.1 (inr c.in_err-put_both_in_place.ensures.device))
+
+-- ---- the query comes after the trees
+
+pub returns-in_err-query-clause-query_later : goal.returns-in_err-query-clause-query_later
+returns-in_err-query-clause-query_later g c =
+    let (p, held, of_file) = c.in_ok-snapshot.ensures.made in
+    inr (trees_held (g.R.Read.remaining c.args.input.now) c.args.edition c.in_ok-snapshot.snapshot p held of_file)
+
+pub returns-in_err-proved-clause-query_later : goal.returns-in_err-proved-clause-query_later
+returns-in_err-proved-clause-query_later g c =
+    let (p, held, of_file) = c.in_ok-snapshot.ensures.made in
+    inr (trees_held (g.R.Read.remaining c.args.input.now) c.args.edition c.in_ok-snapshot.snapshot p held of_file)
+
+pub returns-in_err-line-clause-query_later : goal.returns-in_err-line-clause-query_later
+returns-in_err-line-clause-query_later g c =
+    let (p, held, of_file) = c.in_ok-snapshot.ensures.made in
+    inr (trees_held (g.R.Read.remaining c.args.input.now) c.args.edition c.in_ok-snapshot.snapshot p held of_file)
+
+pub returns-in_err-write_whole-clause-query_later : goal.returns-in_err-write_whole-clause-query_later
+returns-in_err-write_whole-clause-query_later g c =
+    let (p, held, of_file) = c.in_ok-snapshot.ensures.made in
+    inr (trees_held (g.R.Read.remaining c.args.input.now) c.args.edition c.in_ok-snapshot.snapshot p held of_file)
+
+pub returns-in_err-write_whole-2-clause-query_later : goal.returns-in_err-write_whole-2-clause-query_later
+returns-in_err-write_whole-2-clause-query_later g c =
+    let (p, held, of_file) = c.in_ok-snapshot.ensures.made in
+    inr (trees_held (g.R.Read.remaining c.args.input.now) c.args.edition c.in_ok-snapshot.snapshot p held of_file)
+
+pub returns-in_err-put_both_in_place-clause-query_later : goal.returns-in_err-put_both_in_place-clause-query_later
+returns-in_err-put_both_in_place-clause-query_later g c =
+    let (p, held, of_file) = c.in_ok-snapshot.ensures.made in
+    inr (trees_held (g.R.Read.remaining c.args.input.now) c.args.edition c.in_ok-snapshot.snapshot p held of_file)
+
+pub returns-clause-query_later : goal.returns-clause-query_later
+returns-clause-query_later g c =
+    let (p, held, of_file) = c.in_ok-snapshot.ensures.made in
+    inr (trees_held (g.R.Read.remaining c.args.input.now) c.args.edition c.in_ok-snapshot.snapshot p held of_file)
+
+-- ---- nothing is written but where a device fails
+
+pub returns-in_err-snapshot-clause-nothing : goal.returns-in_err-snapshot-clause-nothing
+returns-in_err-snapshot-clause-nothing g c =
+    kept (g.A.Write.contents c.args.answer.now) (g.P.Write.contents c.args.proof.now) (g.W.Write.contents c.args.output.now) c.from_residual.result
+
+pub returns-in_err-write_whole-clause-nothing : goal.returns-in_err-write_whole-clause-nothing
+returns-in_err-write_whole-clause-nothing g c =
+    device_writes _ c.from_residual-in_err-write_whole.result (device_told c.from_residual-in_err-write_whole.result c.in_err-write_whole.field-0.0 c.from_residual-in_err-write_whole.ensures.1 c.in_err-write_whole.ensures.device)
+
+pub returns-in_err-write_whole-2-clause-nothing : goal.returns-in_err-write_whole-2-clause-nothing
+returns-in_err-write_whole-2-clause-nothing g c =
+    device_writes _ c.from_residual-in_err-write_whole-2.result (device_told c.from_residual-in_err-write_whole-2.result c.in_err-write_whole-2.field-0.0 c.from_residual-in_err-write_whole-2.ensures.1 c.in_err-write_whole-2.ensures.device)
+
+pub returns-in_err-put_both_in_place-clause-nothing : goal.returns-in_err-put_both_in_place-clause-nothing
+returns-in_err-put_both_in_place-clause-nothing g c =
+    device_writes _ c.from_residual-in_err-put_both_in_place.result (device_told c.from_residual-in_err-put_both_in_place.result c.in_err-put_both_in_place.field-0.0 c.from_residual-in_err-put_both_in_place.ensures.1 c.in_err-put_both_in_place.ensures.device)
+
+pub returns-clause-nothing : goal.returns-clause-nothing
+returns-clause-nothing g c =
+    device_writes _ c.write_whole-3.result c.write_whole-3.ensures.device
