@@ -21,9 +21,10 @@ ghost use Rattle.tree_walk.specs.Walks.{IsTopOf};
 use crate::fault::WalkFault;
 use crate::gather::Gather;
 use crate::key_range::KeyRange;
-use crate::pending::{Pending, pick};
+use crate::pending::{AllPending, Pending, pick};
 use crate::tally::Tally;
 use crate::visit::{open, open_inner, open_leaf};
+use smallvec::SmallVec;
 use std::alloc::{AllocError, Global};
 use tree_node::{Digest, Entries, NodeRef, Shelf, Tree};
 
@@ -77,7 +78,7 @@ pub(crate) fn gather<'a, S: Shelf<'a>, G: Gather<'a>>(
             level,
             children,
         } => {
-            let mut pending: Vec<Pending<'a>> = Vec::new(alloc);
+            let mut pending: AllPending<'a> = SmallVec::new(alloc);
             pick(children, None, range, &mut pending, gathered)?;
             let way = Way { alloc, tree, range };
             descend(&way, shelf, level - 1, pending, tally, gathered)
@@ -90,7 +91,7 @@ fn descend<'a, S: Shelf<'a>, G: Gather<'a>>(
     way: &Way<'_>,
     shelf: &mut S,
     level: u8,
-    pending: Vec<Pending<'a>>,
+    pending: AllPending<'a>,
     tally: &mut Tally,
     gathered: &mut G,
 ) -> Result<(), WalkFault>
@@ -138,7 +139,7 @@ fn open_level<'a, S: Shelf<'a>, G: Gather<'a>>(
     nodes: &[Pending<'a>],
     tally: &mut Tally,
     gathered: &mut G,
-) -> Result<Vec<Pending<'a>>, WalkFault>
+) -> Result<AllPending<'a>, WalkFault>
     requires inner { 1 ≤ level }
     requires some { IsIn (range_of way.now.range.now) way.now.range.now.lo.now }
     requires order { AreInOrder None (spots_of nodes.now) }
@@ -168,7 +169,7 @@ fn open_level<'a, S: Shelf<'a>, G: Gather<'a>>(
         gathered.old gathered.new)
         (IsOneOf spots) (nodes_around S.holds S.used shelf.old shelf.new) result }
 {
-    let mut pending: Vec<Pending<'a>> = Vec::new(way.alloc);
+    let mut pending: AllPending<'a> = SmallVec::new(way.alloc);
     for node in nodes {
         let children = open_inner(shelf, node, way.tree, level, tally)?;
         pick(children, node.left, way.range, &mut pending, gathered)?;

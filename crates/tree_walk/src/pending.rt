@@ -15,8 +15,9 @@ ghost use Rattle.tree_walk.specs.Ranges.{IsIn, range_of};
 
 use crate::gather::Gather;
 use crate::key_range::KeyRange;
+use smallvec::SmallVec;
 use std::alloc::AllocError;
-use tree_node::{Child, Children, Entries, is_above};
+use tree_node::{Child, Children, Digest, Entries, is_above};
 
 /// A child that is opened, as its parent states it.
 #[derive(Clone, Copy)]
@@ -25,6 +26,23 @@ pub(crate) struct Pending<'a> {
     pub(crate) left: Option<&'a [u8]>,
     /// What its parent states of it.
     pub(crate) child: Child<'a>,
+}
+
+/// The children of a level that a walk goes into. Up to two, as many as a walk for one key goes into, take no memory.
+pub(crate) type AllPending<'a> = SmallVec<Pending<'a>, 2>;
+
+impl Default for Pending<'_> {
+    /// A child that no walk goes into: what a list has where it has none yet.
+    fn default() -> Self {
+        Pending {
+            left: None,
+            child: Child {
+                greatest: b"",
+                number: 0,
+                digest: Digest([0; 32]),
+            },
+        }
+    }
 }
 
 impl<'a> Pending<'a> {
@@ -61,7 +79,7 @@ pub(crate) fn pick<'a, G: Gather<'a>>(
     children: Children<'a>,
     left: Option<&'a [u8]>,
     range: &KeyRange<'_>,
-    pending: &mut Vec<Pending<'a>>,
+    pending: &mut AllPending<'a>,
     gathered: &mut G,
 ) -> Result<(), AllocError>
     requires some { IsIn (range_of range.now) range.now.lo.now }

@@ -1,5 +1,5 @@
 use Rattle.std.proofs.Common.{◌≡◌, ℕ, suc, ◌-◌, List, Option, map, Result, refl, sym, subst, ◌∙◌, arith}
-use Rattle.std.specs.Global.{Vec}
+use Rattle.smallvec.specs.SmallVec.{SmallVec}
 use Rattle.tree_node.specs.NodeRefs.{number_of}
 use Rattle.tree_node.specs.Nodes.{Binding, Link}
 use Rattle.tree_node.specs.Trees.{levels}
@@ -26,7 +26,7 @@ pub returns-in_err-pending-clause-fetches : goal.returns-in_err-pending-clause-f
 returns-in_err-pending-clause-fetches g c =
     subst (λ (r : Result (Unit {0}) WalkFault). FetchesBelow (suc c.args.level) r (nodes_around g.S.Shelf.holds g.S.Shelf.used c.args.shelf.now c.open_level.new.shelf) c.args.tally.now.fetches c.open_level.new.tally.fetches)
     (sym (err_is c.from_residual.result c.in_err-pending.field-0.0 c.from_residual.ensures.1))
-    (down_stop (suc c.args.level) (g.S.Shelf.used c.args.shelf.now) c.args.tally.now.fetches (Vec Pending) (Unit {0}) c.in_err-pending.field-0.0 c.loop-level.level (g.S.Shelf.holds c.loop-level.shelf) (g.S.Shelf.holds c.open_level.new.shelf)
+    (down_stop (suc c.args.level) (g.S.Shelf.used c.args.shelf.now) c.args.tally.now.fetches (SmallVec Pending) (Unit {0}) c.in_err-pending.field-0.0 c.loop-level.level (g.S.Shelf.holds c.loop-level.shelf) (g.S.Shelf.holds c.open_level.new.shelf)
     (g.S.Shelf.used c.loop-level.shelf) (g.S.Shelf.used c.open_level.new.shelf) c.loop-level.tally.fetches c.open_level.new.tally.fetches (omega (arith, c.loop-level.invariant.within))
     c.loop-level.invariant.fetches c.open_level.ensures.stays c.in_err-pending.ensures.fetches)
 
@@ -39,7 +39,7 @@ returns-in_err-pending-clause-answer g c = λ shape entries reached.
     (record {
       ends = honest_down_stop g.G.Gather.gathers g.G.Gather.closing (number_of c.args.way.now.tree) (range_of c.args.way.now.range.now) c.args.level (spots_of c.args.pending.items) c.args.gathered.now (cause_of c.in_err-pending.field-0.0) c.loop-level.level (spots_of c.loop-level.pending.items) c.loop-level.gathered
           (g.S.Shelf.holds c.open_level.new.shelf) (g.S.Shelf.used c.args.shelf.now) (g.S.Shelf.used c.loop-level.shelf) (g.S.Shelf.used c.open_level.new.shelf) c.loop-level.invariant.within c.loop-level.invariant.honest c.open_level.ensures.grows
-          (λ nodes stated. ((rw c.as_slice.ensures.value at c.in_err-pending.ensures.answer) nodes stated).ends) shape entries reached;
+          (λ nodes stated. ((rw c.as_slice.ensures at c.in_err-pending.ensures.answer) nodes stated).ends) shape entries reached;
     })
 
 pub loop-level-preserved : goal.loop-level-preserved
@@ -54,14 +54,14 @@ loop-level-preserved g c =
       stays = stays_then _ _ _ _ c.loop-level.invariant.stays c.open_level.ensures.stays;
       grows = λ bytes was. c.open_level.ensures.grows bytes (c.loop-level.invariant.grows bytes was);
       order = c.in_ok-pending.ensures.order;
-      wanted = λ top all. c.in_ok-pending.ensures.wanted top (subst (λ (ps : List Pending). AreWanted (g.S.Shelf.used c.loop-level.shelf) (number_of c.args.way.now.tree) top c.loop-level.level (spots_of ps)) (sym c.as_slice.ensures.value) (c.loop-level.invariant.wanted top all));
+      wanted = λ top all. c.in_ok-pending.ensures.wanted top (subst (λ (ps : List Pending). AreWanted (g.S.Shelf.used c.loop-level.shelf) (number_of c.args.way.now.tree) top c.loop-level.level (spots_of ps)) (sym c.as_slice.ensures) (c.loop-level.invariant.wanted top all));
       fetches = subst (λ (n : ℕ). FetchingDown n (suc c.args.level) (nodes_around g.S.Shelf.holds g.S.Shelf.used c.args.shelf.now c.open_level.new.shelf) c.args.tally.now.fetches c.open_level.new.tally.fetches) (sym same) fetched;
-      honest = honest_down_step g.G.Gather.gathers g.G.Gather.closing (number_of c.args.way.now.tree) (range_of c.args.way.now.range.now) c.args.level (spots_of c.args.pending.items) c.args.gathered.now (λ (pending : Vec Pending). spots_of pending.items) cause_of c.in_ok-pending.pending (c.loop-level.level - 1)
+      honest = honest_down_step g.G.Gather.gathers g.G.Gather.closing (number_of c.args.way.now.tree) (range_of c.args.way.now.range.now) c.args.level (spots_of c.args.pending.items) c.args.gathered.now (λ (pending : SmallVec Pending). spots_of pending.items) cause_of c.in_ok-pending.pending (c.loop-level.level - 1)
           (spots_of c.loop-level.pending.items) c.loop-level.gathered c.open_level.new.gathered (g.S.Shelf.holds c.open_level.new.shelf) (g.S.Shelf.used c.args.shelf.now) (g.S.Shelf.used c.loop-level.shelf) (g.S.Shelf.used c.open_level.new.shelf) (omega (arith, same, c.loop-level.invariant.within))
-          (rw same c.loop-level.invariant.honest) c.open_level.ensures.grows (rw (same, sym c.as_slice.ensures.value) c.in_ok-pending.ensures.answer);
+          (rw same c.loop-level.invariant.honest) c.open_level.ensures.grows (rw (same, sym c.as_slice.ensures) c.in_ok-pending.ensures.answer);
       gives = gathering_step g.G.Gather.gathers (IsClosedChild g.G.Gather.closing (range_of c.args.way.now.range.now)) (number_of c.args.way.now.tree) (range_of c.args.way.now.range.now) c.args.level (spots_of c.args.pending.items) c.args.gathered.now (g.S.Shelf.used c.args.shelf.now) c.args.tally.now.fetches
           (c.loop-level.level - 1) (g.S.Shelf.holds c.loop-level.shelf) (g.S.Shelf.holds c.open_level.new.shelf) (g.S.Shelf.used c.loop-level.shelf) (g.S.Shelf.used c.open_level.new.shelf) c.loop-level.tally.fetches c.open_level.new.tally.fetches (spots_of c.loop-level.pending.items) (spots_of c.in_ok-pending.pending.items)
-          c.loop-level.gathered c.open_level.new.gathered (omega (arith, same, c.loop-level.invariant.within)) (rw same c.loop-level.invariant.gives) c.open_level.ensures.stays (rw (same, sym c.as_slice.ensures.value) c.in_ok-pending.ensures.gives);
+          c.loop-level.gathered c.open_level.new.gathered (omega (arith, same, c.loop-level.invariant.within)) (rw same c.loop-level.invariant.gives) c.open_level.ensures.stays (rw (same, sym c.as_slice.ensures) c.in_ok-pending.ensures.gives);
     }
 
 pub returns-clause-fetches : goal.returns-clause-fetches
@@ -78,7 +78,7 @@ returns-clause-answer g c =
     honest_down_end g.G.Gather.gathers g.G.Gather.closing (number_of c.args.way.now.tree) (range_of c.args.way.now.range.now) c.args.level (spots_of c.args.pending.items) c.args.gathered.now cause_of c.take_leaves.result (spots_of c.loop-level.pending.items) c.loop-level.gathered c.take_leaves.new.gathered
     (g.S.Shelf.holds c.take_leaves.new.shelf) (g.S.Shelf.used c.args.shelf.now) (g.S.Shelf.used c.loop-level.shelf) (g.S.Shelf.used c.take_leaves.new.shelf)
     (subst (λ (n : ℕ). HonestDown g.G.Gather.gathers g.G.Gather.closing (number_of c.args.way.now.tree) (range_of c.args.way.now.range.now) c.args.level (spots_of c.args.pending.items) c.args.gathered.now n (spots_of c.loop-level.pending.items) c.loop-level.gathered (g.S.Shelf.used c.args.shelf.now) (g.S.Shelf.used c.loop-level.shelf)) last c.loop-level.invariant.honest)
-    c.take_leaves.ensures.grows (rw (sym c.as_slice-2.ensures.value) c.take_leaves.ensures.answer)
+    c.take_leaves.ensures.grows (rw (sym c.as_slice-2.ensures) c.take_leaves.ensures.answer)
 
 pub loop-level-init : goal.loop-level-init
 loop-level-init g c = record {
@@ -96,12 +96,12 @@ loop-level-init g c = record {
 pub returns-in_err-pending-clause-told : goal.returns-in_err-pending-clause-told
 returns-in_err-pending-clause-told g c = λ top all.
     refused_as _ _ _ _ c.in_err-pending.field-0.0 c.from_residual.result (err_is c.from_residual.result c.in_err-pending.field-0.0 c.from_residual.ensures.1)
-    (c.in_err-pending.ensures.told top (subst (λ (ps : List Pending). AreWanted (g.S.Shelf.used c.loop-level.shelf) (number_of c.args.way.now.tree) top c.loop-level.level (spots_of ps)) (sym c.as_slice.ensures.value) (c.loop-level.invariant.wanted top all)))
+    (c.in_err-pending.ensures.told top (subst (λ (ps : List Pending). AreWanted (g.S.Shelf.used c.loop-level.shelf) (number_of c.args.way.now.tree) top c.loop-level.level (spots_of ps)) (sym c.as_slice.ensures) (c.loop-level.invariant.wanted top all)))
 
 pub returns-clause-told : goal.returns-clause-told
 returns-clause-told g c = λ top all.
     let last : c.loop-level.level ≡ 0 = omega (arith, c.loop-level-test.false) in
-    c.take_leaves.ensures.told top (subst (λ (ps : List Pending). AreWanted (g.S.Shelf.used c.loop-level.shelf) (number_of c.args.way.now.tree) top 0 (spots_of ps)) (sym c.as_slice-2.ensures.value)
+    c.take_leaves.ensures.told top (subst (λ (ps : List Pending). AreWanted (g.S.Shelf.used c.loop-level.shelf) (number_of c.args.way.now.tree) top 0 (spots_of ps)) (sym c.as_slice-2.ensures)
     (subst (λ (n : ℕ). AreWanted (g.S.Shelf.used c.loop-level.shelf) (number_of c.args.way.now.tree) top n (spots_of c.loop-level.pending.items)) last (c.loop-level.invariant.wanted top all)))
 
 pub returns-clause-gives : goal.returns-clause-gives
@@ -123,4 +123,4 @@ returns-clause-gives g c =
     (GathersFrom gathers closes (IsBetweenLevels 0 (suc c.args.level)) (record { held = after; before = old; after = new }) from c.take_leaves.new.tally.fetches tree range (map (wanted_of c.args.level) (spots_of c.args.pending.items)) c.args.gathered.now c.take_leaves.new.gathered)
     (λ leaves. gathering_end gathers closes tree range c.args.level (spots_of c.args.pending.items) c.args.gathered.now old from (g.S.Shelf.holds c.loop-level.shelf) after mid new c.loop-level.tally.fetches c.take_leaves.new.tally.fetches pending c.loop-level.gathered c.take_leaves.new.gathered
     so c.take_leaves.ensures.stays leaves)
-    (rw (sym c.as_slice-2.ensures.value) c.take_leaves.ensures.gives)
+    (rw (sym c.as_slice-2.ensures) c.take_leaves.ensures.gives)

@@ -1,5 +1,5 @@
 use Rattle.std.proofs.Common.{◌≡◌, ◌++◌, ◌∷◌, ℕ, ◌+◌, ◌-◌, List, [], Option, None, Some, drop, Result, inl, inr, refl, sym, ap, subst, ◌∙◌}
-use Rattle.std.specs.Global.{Vec}
+use Rattle.smallvec.specs.SmallVec.{SmallVec}
 use Rattle.std.proofs.Math.ListN.{drop_of_length-le}
 use Rattle.tree_node.specs.NodeRefs.{number_of}
 use Rattle.tree_node.specs.Nodes.{Inner, Link, Node}
@@ -44,7 +44,7 @@ returns-in_err-children-clause-answer g c = λ all stated.
     let used = g.S.Shelf.used c.open_inner.new.shelf in
     let before = subst (λ (rest : List (Option (List ℕ) × Link)). HonestSoFar items has (number_of c.args.way.now.tree) c.args.level spots rest found (g.S.Shelf.used c.args.shelf.now) (g.S.Shelf.used c.loop-node.shelf))
     (rest_is c.args.nodes.now c.loop-node.node-index _ c.loop-node-test.true) c.loop-node.invariant.honest in
-    subst (λ (r : Result (Vec Pending) WalkFault). Outcome cause_of (λ (pending : Vec Pending). AreThose has (children_of_all all) (spots_of pending.items)
+    subst (λ (r : Result (SmallVec Pending) WalkFault). Outcome cause_of (λ (pending : SmallVec Pending). AreThose has (children_of_all all) (spots_of pending.items)
     × ((closed : List (Option (List ℕ) × Link)) × AreThose (IsClosedChild g.G.Gather.closing (range_of c.args.way.now.range.now)) (children_of_all all) closed × Gains g.G.Gather.gathers c.args.gathered.now c.loop-node.gathered closed [])) (IsOneOf all) (record { held = g.S.Shelf.holds c.open_inner.new.shelf; before = g.S.Shelf.used c.args.shelf.now; after = used }) r)
     (sym (err_is c.from_residual.result c.in_err-children.field-0.0 c.from_residual.ensures.1))
     (record {

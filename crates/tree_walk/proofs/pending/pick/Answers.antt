@@ -1,6 +1,6 @@
 use Rattle.std.proofs.Common.{◌≡◌, ◌++◌, ◌∷◌, List, ℕ, [], Option, Some, sym, ap, subst, ◌∙◌}
 use Rattle.std.proofs.lemmas.List.{append-nil}
-use Rattle.std.specs.Global.{Vec}
+use Rattle.smallvec.specs.SmallVec.{SmallVec}
 use Rattle.std.specs.List.{AllByRecursion}
 use Rattle.std.specs.Option.{option_copied}
 use Rattle.tree_node.specs.NodeRefs.{link_of}
@@ -67,7 +67,7 @@ loop-child-preserved g c =
           let meets = meets_from_both range spot.0 spot.1.greatest c.skip_below-children.ensures.bytes c.requires.some c.goes_on_above.ensures.bytes rising.0 from.0 goes in (
             before.0 ++ spot ∷ [],
             before.1,
-            one_after spot_of (spots_of c.args.pending.now.items) before.0 c.loop-child.pending.items pending (record { left = c.loop-child.bound; child = c.in-Some.child }) (ap (λ (v : Vec _). v.items) w.pending-is ∙ w.in_ok-push.ensures.items) before.2,
+            one_after spot_of (spots_of c.args.pending.now.items) before.0 c.loop-child.pending.items pending (record { left = c.loop-child.bound; child = c.in-Some.child }) (ap (λ (v : SmallVec _). v.items) w.pending-is ∙ w.in_ok-push.ensures.ok) before.2,
             picked_one opens all rest before.0 spot (meets, shut) picking,
             picked_other closes all rest before.1 spot shut closing,
             subst (λ (cs : List (Option (List ℕ) × Link)). Gains g.G.Gather.gathers c.args.gathered.now c.closes.new.self cs []) (append-nil before.1)
@@ -77,7 +77,7 @@ loop-child-preserved g c =
       | else-not-closes w ↦ (
         before.0,
         before.1 ++ spot ∷ [],
-        ap (λ (v : Vec _). spots_of v.items) w.pending-is ∙ before.2,
+        ap (λ (v : SmallVec _). spots_of v.items) w.pending-is ∙ before.2,
         picked_other opens all rest before.0 spot (λ is. is.1 (c.closes.ensures.told.0 w.if-not-closes.false)) picking,
         picked_one closes all rest before.1 spot (c.closes.ensures.told.0 w.if-not-closes.false) closing,
         gains_then g.G.Gather.gathers c.args.gathered.now c.loop-child.gathered c.closes.new.self before.1 (spot ∷ []) [] [] before.5 (c.closes.ensures.closed w.if-not-closes.false),
