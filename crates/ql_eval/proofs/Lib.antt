@@ -5,6 +5,7 @@ pub mod ToldLemmas
 pub mod ObjectLemmas
 pub mod KnownLemmas
 pub mod NameLemmas
+pub mod ExitLemmas
 pub mod StepLemmas
 pub mod EachLemmas
 pub mod LoopLemmas

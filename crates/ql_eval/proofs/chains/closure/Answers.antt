@@ -2,7 +2,7 @@ use Rattle.std.proofs.Common.{◌≡◌, ◌*◌, ◌-◌, ℕ, List, [], length
 use Rattle.std.proofs.lemmas.List.{take_all}
 use Rattle.std.specs.List.{Contains}
 use Rattle.osm_model.specs.declared.reference.Ref.{Ref}
-use Rattle.tree_node.proofs.shared.OutcomeLaws.{outcome_as, outcome_then, outcome_then_stops, uses}
+use Rattle.tree_node.proofs.shared.OutcomeLaws.{outcome_as, outcome_stops, outcome_then, outcome_then_stops, uses, memory_stops}
 use Rattle.ref_sets.specs.Adding.{Adds}
 use Rattle.ql_eval.specs.Questions.{NeededBy}
 use Rattle.ql_eval.specs.Work.{OfSet, Steps, step_cost}
@@ -16,7 +16,45 @@ use Rattle.ql_eval.proofs.ChainLemmas.{ChainedWell, LedWell, asks_split, chain_e
 use Rattle.ref_sets.proofs.shared.Parts.{slice_is_rest}
 use Rattle.ql_eval.proofs.GivenLemmas.{added_given, all_later, none_given, rest_given, sorted_given}
 use Rattle.ql_eval.specs.internal.Giving.{AllGiven}
+use Rattle.ql_eval.proofs.ExitLemmas.{no_value}
+use Rattle.ql_eval.proofs.StepLemmas.{refused_as}
 use Rattle.ql_eval.proofs.chains.closure.Goals as goal
+
+pub returns-in_err-next-clause-later : goal.returns-in_err-next-clause-later
+returns-in_err-next-clause-later g c = c.one_link.ensures.later
+
+pub returns-in_err-next-clause-walked : goal.returns-in_err-next-clause-walked
+returns-in_err-next-clause-walked g c = no_value c.from_residual.result _ _ c.from_residual.ensures.1
+
+pub returns-in_err-next-clause-told : goal.returns-in_err-next-clause-told
+returns-in_err-next-clause-told g c = refused_as _ c.from_residual.result _ c.from_residual.ensures.1 c.in_err-next.ensures.told
+
+pub returns-in_err-next-clause-named : goal.returns-in_err-next-clause-named
+returns-in_err-next-clause-named g c = no_value c.from_residual.result _ _ c.from_residual.ensures.1
+
+pub returns-in_err-next-clause-bounded : goal.returns-in_err-next-clause-bounded
+returns-in_err-next-clause-bounded g c = λ p is under there clear. still _ _
+
+pub returns-in_err-next-clause-same : goal.returns-in_err-next-clause-same
+returns-in_err-next-clause-same g c = no_value c.from_residual.result _ _ c.from_residual.ensures.1
+
+pub returns-in_err-next-clause-answer : goal.returns-in_err-next-clause-answer
+returns-in_err-next-clause-answer g c = λ p is under there.
+    let from = c.args.from.now in
+    outcome_stops _ c.from_residual.ensures.1 refl (λ x needs. chain_ends p c.args.direction from [] x (first_needs p c.args.direction from x needs))
+    (c.in_err-next.ensures.answer p is under there)
+
+pub returns-in_err-add_all : goal.returns-in_err-add_all
+returns-in_err-add_all g c =
+    let end = c.from_residual-in_err-add_all in record {
+      later = c.one_link.ensures.later;
+      walked = no_value end.result _ _ end.ensures.1;
+      told = refused_as _ end.result _ end.ensures.1 (g.met.W.Source.out_of_memory _);
+      named = no_value end.result _ _ end.ensures.1;
+      answer = λ p is under there. memory_stops _ end.ensures.1 refl;
+      bounded = λ p is under there clear. still _ _;
+      same = no_value end.result _ _ end.ensures.1;
+    }
 
 pub loop-at-init : goal.loop-at-init
 loop-at-init g c = record {
@@ -34,19 +72,70 @@ loop-at-init g c = record {
       outcome_as (first_needs p c.args.direction from) (λ so. needs_first p c.args.direction from) (λ so. chained_first c.args.direction p.objects from c.in_ok-next.next refs so adds) (c.in_ok-next.ensures.answer p is under there);
 }
 
-pub returns-in_err-next-2-clause-answer : goal.returns-in_err-next-2-clause-answer
-returns-in_err-next-2-clause-answer g c = λ p is under there.
-    let direction = c.args.direction in
-    let from = c.args.from.now in
+pub returns-in_err-afford : goal.returns-in_err-afford
+returns-in_err-afford g c =
+    let end = c.from_residual-in_err-afford in record {
+      later = c.loop-at.invariant.later;
+      walked = no_value end.result _ _ end.ensures.1;
+      told = refused_as _ end.result _ end.ensures.1 (g.met.W.Source.out_of_memory _);
+      named = no_value end.result _ _ end.ensures.1;
+      answer = λ p is under there. memory_stops _ end.ensures.1 refl;
+      bounded = λ p is under there clear.
+          let direction = c.args.direction in
+          let from = c.args.from.now in
+          let refs = c.loop-at.found.refs.items in
+          let so = found_well (λ x used. used) clear (c.loop-at.invariant.answer p is under there) in
+          let same : c.len-in-loop-at.result ≡ length refs = omega arith in
+          subst (λ (old : ℕ). IsBounded (OfSet (IsEnd direction p.objects from) (λ found. Steps (length found))) old c.afford.new.self.spent) c.loop-at.invariant.same
+          (found_bounded (IsEnd direction p.objects from) refs _ _ c.loop-at.invariant.apart so.sound
+          (subst (λ (n : ℕ). IsCounted c.loop-at.meter.spent c.afford.new.self.spent (step_cost * n)) same c.in_err-afford.ensures.counted));
+      same = no_value end.result _ _ end.ensures.1;
+    }
+
+pub one_link-requires-in-loop-at : goal.one_link-requires-in-loop-at
+one_link-requires-in-loop-at g c =
     let refs = c.loop-at.found.refs.items in
     let at = c.loop-at.at in
     let all = c.deref.result.now in
     let rest : take (length all - at) (drop at all) ≡ drop at refs = slice_is_rest all at ∙ ap (λ (l : List Ref). drop at l) c.deref.ensures.value in
-    let shelf = uses (g.W.Source.holds c.one_link-in-loop-at.new.source) (g.W.Source.used c.loop-at.source) (g.W.Source.used c.one_link-in-loop-at.new.source) in
-    outcome_then_stops _ c.from_residual-in_err-next-2.ensures.1 refl (λ x. g.met.W.Source.grows _ _ x c.one_link-in-loop-at.ensures.later)
-    (chain_ends p direction from (take at refs)) (λ so. left_ends p direction from at refs so) (c.loop-at.invariant.answer p is under there)
-    (λ so. subst (λ (names : List Ref). LedWell p direction names shelf (Err c.in_err-next-2.field-0.0)) rest
-    (c.in_err-next-2.ensures.answer p is (g.met.W.Source.same_under _ _ p c.loop-at.invariant.later under) (subst (λ (names : List Ref). AreThere p.objects names) (sym rest) (left_there direction p.objects from at refs so))))
+    subst (λ (l : List Ref). AllGiven (g.W.Source.gave c.loop-at.source) l) (sym rest) (rest_given at refs c.loop-at.invariant.named)
+
+pub returns-in_err-next-2 : goal.returns-in_err-next-2
+returns-in_err-next-2 g c =
+    let end = c.from_residual-in_err-next-2 in record {
+      later = g.met.W.Source.chained _ _ _ c.loop-at.invariant.later c.one_link-in-loop-at.ensures.later;
+      walked = no_value end.result _ _ end.ensures.1;
+      told = refused_as _ end.result _ end.ensures.1 c.in_err-next-2.ensures.told;
+      named = no_value end.result _ _ end.ensures.1;
+      answer = λ p is under there.
+          let direction = c.args.direction in
+          let from = c.args.from.now in
+          let refs = c.loop-at.found.refs.items in
+          let at = c.loop-at.at in
+          let all = c.deref.result.now in
+          let rest : take (length all - at) (drop at all) ≡ drop at refs = slice_is_rest all at ∙ ap (λ (l : List Ref). drop at l) c.deref.ensures.value in
+          let shelf = uses (g.W.Source.holds c.one_link-in-loop-at.new.source) (g.W.Source.used c.loop-at.source) (g.W.Source.used c.one_link-in-loop-at.new.source) in
+          outcome_then_stops _ end.ensures.1 refl (λ x. g.met.W.Source.grows _ _ x c.one_link-in-loop-at.ensures.later)
+          (chain_ends p direction from (take at refs)) (λ so. left_ends p direction from at refs so) (c.loop-at.invariant.answer p is under there)
+          (λ so. subst (λ (names : List Ref). LedWell p direction names shelf (Err c.in_err-next-2.field-0.0)) rest
+          (c.in_err-next-2.ensures.answer p is (g.met.W.Source.same_under _ _ p c.loop-at.invariant.later under) (subst (λ (names : List Ref). AreThere p.objects names) (sym rest) (left_there direction p.objects from at refs so))));
+      bounded = λ p is under there clear.
+          subst (λ (new : ℕ). IsBounded (OfSet (IsEnd c.args.direction p.objects c.args.from.now) (λ found. Steps (length found))) c.args.meter.now.spent new) (sym (c.in_ok-afford.ensures.same ∙ c.loop-at.invariant.same)) (still _ _);
+      same = no_value end.result _ _ end.ensures.1;
+    }
+
+pub returns-in_err-add_all-2 : goal.returns-in_err-add_all-2
+returns-in_err-add_all-2 g c =
+    let end = c.from_residual-in_err-add_all-2 in record {
+      later = g.met.W.Source.chained _ _ _ c.loop-at.invariant.later c.one_link-in-loop-at.ensures.later;
+      walked = no_value end.result _ _ end.ensures.1;
+      told = refused_as _ end.result _ end.ensures.1 (g.met.W.Source.out_of_memory _);
+      named = no_value end.result _ _ end.ensures.1;
+      answer = λ p is under there. memory_stops _ end.ensures.1 refl;
+      bounded = λ p is under there clear.
+          subst (λ (new : ℕ). IsBounded (OfSet (IsEnd c.args.direction p.objects c.args.from.now) (λ found. Steps (length found))) c.args.meter.now.spent new) (sym (c.in_ok-afford.ensures.same ∙ c.loop-at.invariant.same)) (still _ _);
+      same = no_value end.result _ _ end.ensures.1;
+    }
 
 pub loop-at-preserved : goal.loop-at-preserved
 loop-at-preserved g c =
@@ -81,6 +170,18 @@ loop-at-preserved g c =
           (c.in_ok-next-2.ensures.answer p is (g.met.W.Source.same_under _ _ p c.loop-at.invariant.later under) (subst (λ (names : List Ref). AreThere p.objects names) (sym rest) (left_there direction p.objects from at refs so)))));
     }
 
+pub returns-clause-later : goal.returns-clause-later
+returns-clause-later g c = c.loop-at.invariant.later
+
+pub returns-clause-walked : goal.returns-clause-walked
+returns-clause-walked g c = c.loop-at.invariant.walked
+
+pub returns-clause-told : goal.returns-clause-told
+returns-clause-told g c = tt
+
+pub returns-clause-named : goal.returns-clause-named
+returns-clause-named g c = sorted_given c.loop-at.found.refs.items c.from_refs.result c.from_refs.ensures c.loop-at.invariant.named
+
 pub returns-clause-answer : goal.returns-clause-answer
 returns-clause-answer g c = λ p is under there.
     let direction = c.args.direction in
@@ -92,42 +193,9 @@ returns-clause-answer g c = λ p is under there.
     (λ so. chained_all direction p.objects from refs _ (subst (λ (followed : List Ref). AreChained direction p.objects from followed refs) all so) c.from_refs.ensures)
     (c.loop-at.invariant.answer p is under there)
 
-pub one_link-requires-in-loop-at : goal.one_link-requires-in-loop-at
-one_link-requires-in-loop-at g c =
-    let refs = c.loop-at.found.refs.items in
-    let at = c.loop-at.at in
-    let all = c.deref.result.now in
-    let rest : take (length all - at) (drop at all) ≡ drop at refs = slice_is_rest all at ∙ ap (λ (l : List Ref). drop at l) c.deref.ensures.value in
-    subst (λ (l : List Ref). AllGiven (g.W.Source.gave c.loop-at.source) l) (sym rest) (rest_given at refs c.loop-at.invariant.named)
-
-pub returns-clause-named : goal.returns-clause-named
-returns-clause-named g c = sorted_given c.loop-at.found.refs.items c.from_refs.result c.from_refs.ensures c.loop-at.invariant.named
-
-pub returns-in_err-afford-clause-bounded : goal.returns-in_err-afford-clause-bounded
-returns-in_err-afford-clause-bounded g c = λ p is under there clear.
-    let direction = c.args.direction in
-    let from = c.args.from.now in
-    let refs = c.loop-at.found.refs.items in
-    let so = found_well (λ x used. used) clear (c.loop-at.invariant.answer p is under there) in
-    let same : c.len-in-loop-at.result ≡ length refs = omega arith in
-    subst (λ (old : ℕ). IsBounded (OfSet (IsEnd direction p.objects from) (λ found. Steps (length found))) old c.afford.new.self.spent) c.loop-at.invariant.same
-    (found_bounded (IsEnd direction p.objects from) refs _ _ c.loop-at.invariant.apart so.sound
-    (subst (λ (n : ℕ). IsCounted c.loop-at.meter.spent c.afford.new.self.spent (step_cost * n)) same c.in_err-afford.ensures.counted))
-
-pub returns-in_err-next-2-clause-bounded : goal.returns-in_err-next-2-clause-bounded
-returns-in_err-next-2-clause-bounded g c = λ p is under there clear.
-    subst (λ (new : ℕ). IsBounded (OfSet (IsEnd c.args.direction p.objects c.args.from.now) (λ found. Steps (length found))) c.args.meter.now.spent new) (sym (c.in_ok-afford.ensures.same ∙ c.loop-at.invariant.same)) (still _ _)
-
-pub returns-in_err-add_all-2-clause-bounded : goal.returns-in_err-add_all-2-clause-bounded
-returns-in_err-add_all-2-clause-bounded g c = λ p is under there clear.
-    subst (λ (new : ℕ). IsBounded (OfSet (IsEnd c.args.direction p.objects c.args.from.now) (λ found. Steps (length found))) c.args.meter.now.spent new) (sym (c.in_ok-afford.ensures.same ∙ c.loop-at.invariant.same)) (still _ _)
-
 pub returns-clause-bounded : goal.returns-clause-bounded
 returns-clause-bounded g c = λ p is under there clear.
     subst (λ (new : ℕ). IsBounded (OfSet (IsEnd c.args.direction p.objects c.args.from.now) (λ found. Steps (length found))) c.args.meter.now.spent new) (sym c.loop-at.invariant.same) (still _ _)
 
-pub returns-in_err-next-clause-bounded : goal.returns-in_err-next-clause-bounded
-returns-in_err-next-clause-bounded g c = λ p is under there clear. still _ _
-
-pub returns-in_err-add_all-clause-bounded : goal.returns-in_err-add_all-clause-bounded
-returns-in_err-add_all-clause-bounded g c = λ p is under there clear. still _ _
+pub returns-clause-same : goal.returns-clause-same
+returns-clause-same g c = c.loop-at.invariant.same

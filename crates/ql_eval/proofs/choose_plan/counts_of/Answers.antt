@@ -1,6 +1,6 @@
-use Rattle.std.proofs.Common.{ℕ, ◌+◌, ap, cond, refl, sym, ◌∙◌}
+use Rattle.std.proofs.Common.{ℕ, ◌+◌, ap, cond, refl, sym, ◌∙◌, filter, length, List}
 use Rattle.tree_node.proofs.shared.OutcomeLaws.{outcome_as, outcome_then, outcome_then_stops}
-use Rattle.ql_syntax.specs.StatementViews.{filter_of}
+use Rattle.ql_syntax.specs.StatementViews.{filter_of, filters_of}
 use Rattle.ql_syntax.specs.declared.filter.Filter.{Filter}
 use Rattle.ql_plan.specs.Plans.{is_counted}
 use Rattle.ql_eval.specs.Questions.{Ask}
@@ -8,16 +8,26 @@ use Rattle.ql_eval.proofs.EachLemmas.{all_front, front_all, front_needs, needs_s
 use Rattle.ql_eval.specs.internal.Counting.{IsRivalAsk}
 use Rattle.ql_eval.proofs.CountLemmas.{counts_all, counts_more, many_more}
 use Rattle.ql_eval.proofs.NarrowingLemmas.{asks_code, code_asks}
+use Rattle.ql_eval.proofs.ExitLemmas.{no_value}
+use Rattle.ql_eval.proofs.StepLemmas.{refused_as}
+use Rattle.std.proofs.lemmas.List.{take_all}
 use Rattle.ql_eval.proofs.choose_plan.counts_of.Goals as goal
 
-pub returns-in_err-add_count-clause-answer : goal.returns-in_err-add_count-clause-answer
-returns-in_err-add_count-clause-answer g c = λ p is under.
-    let filters = c.args.filters.now in
-    let Asks : Filter → Ask → Type 0 = λ f ask. IsRivalAsk c.args.kind (filter_of f) ask in
-    outcome_then_stops _ c.from_residual.ensures.1 refl (λ x. g.met.W.Source.grows _ _ x c.add_count.ensures.later)
-    (λ x needs. asks_code (IsRivalAsk c.args.kind) p filters x (front_all Asks p filters c.loop-filter.filter-index x needs))
-    (λ so x needs. asks_code (IsRivalAsk c.args.kind) p filters x (next_all Asks p filters c.loop-filter.filter-index c.filter-item.result c.loop-filter-test.true c.filter-item.is x needs))
-    (c.loop-filter.invariant.answer p is under) (λ so. c.in_err-add_count.ensures.answer p is (g.met.W.Source.same_under _ _ p c.loop-filter.invariant.later under))
+pub returns-in_err-add_count : goal.returns-in_err-add_count
+returns-in_err-add_count g c =
+    let end = c.from_residual in record {
+      later = g.met.W.Source.chained _ _ _ c.loop-filter.invariant.later c.add_count.ensures.later;
+      walked = no_value end.result _ _ end.ensures.1;
+      told = refused_as _ end.result _ end.ensures.1 c.in_err-add_count.ensures.told;
+      many = no_value end.result _ _ end.ensures.1;
+      answer = λ p is under.
+          let filters = c.args.filters.now in
+          let Asks : Filter → Ask → Type 0 = λ f ask. IsRivalAsk c.args.kind (filter_of f) ask in
+          outcome_then_stops _ end.ensures.1 refl (λ x. g.met.W.Source.grows _ _ x c.add_count.ensures.later)
+          (λ x needs. asks_code (IsRivalAsk c.args.kind) p filters x (front_all Asks p filters c.loop-filter.filter-index x needs))
+          (λ so x needs. asks_code (IsRivalAsk c.args.kind) p filters x (next_all Asks p filters c.loop-filter.filter-index c.filter-item.result c.loop-filter-test.true c.filter-item.is x needs))
+          (c.loop-filter.invariant.answer p is under) (λ so. c.in_err-add_count.ensures.answer p is (g.met.W.Source.same_under _ _ p c.loop-filter.invariant.later under));
+    }
 
 pub loop-filter-preserved : goal.loop-filter-preserved
 loop-filter-preserved g c = record {
@@ -34,6 +44,18 @@ loop-filter-preserved g c = record {
       (λ so next. counts_more p c.args.kind filters k f c.loop-filter-test.true c.filter-item.is c.loop-filter.counts.items c.add_count.new.counts.items so next)
       (c.loop-filter.invariant.answer p is under) (λ so. c.in_ok-add_count.ensures.answer p is (g.met.W.Source.same_under _ _ p c.loop-filter.invariant.later under));
 }
+
+pub returns-clause-later : goal.returns-clause-later
+returns-clause-later g c = c.loop-filter.invariant.later
+
+pub returns-clause-walked : goal.returns-clause-walked
+returns-clause-walked g c = c.loop-filter.invariant.walked
+
+pub returns-clause-told : goal.returns-clause-told
+returns-clause-told g c = tt
+
+pub returns-clause-many : goal.returns-clause-many
+returns-clause-many g c = c.loop-filter.invariant.many ∙ ap (λ (fs : List Filter). length (filter is_counted (filters_of fs))) (take_all c.loop-filter.filter-index c.args.filters.now c.loop-filter-test.false)
 
 pub returns-clause-answer : goal.returns-clause-answer
 returns-clause-answer g c = λ p is under.

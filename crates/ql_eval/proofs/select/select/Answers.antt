@@ -1,7 +1,7 @@
 use Rattle.std.proofs.Common.{List, Option, Ok, refl, sym, subst}
 use Rattle.std.specs.List.{AllByRecursion}
 use Rattle.osm_model.specs.declared.kind.Kind.{Kind}
-use Rattle.tree_node.proofs.shared.OutcomeLaws.{outcome_stops, uses}
+use Rattle.tree_node.proofs.shared.OutcomeLaws.{memory_stops, outcome_stops, uses}
 use Rattle.ql_syntax.specs.Filters.{Filter}
 use Rattle.ql_syntax.specs.LawfulQueries.{Allows}
 use Rattle.ql_syntax.specs.StatementViews.{filters_of}
@@ -12,7 +12,8 @@ use Rattle.ql_eval.specs.Asks.{AskedByChoice, kind_picked}
 use Rattle.ql_eval.specs.Questions.{NeededBy}
 use Rattle.ql_eval.proofs.PlanLemmas.{one_planned}
 use Rattle.ql_eval.proofs.SelectLemmas.{PlannedWell, choice_asks, chosen_asks, select_splits}
-use Rattle.ql_eval.proofs.StepLemmas.{then_same}
+use Rattle.ql_eval.proofs.ExitLemmas.{no_value}
+use Rattle.ql_eval.proofs.StepLemmas.{refused_as, then_same}
 use Rattle.ql_eval.proofs.GivenLemmas.{sets_later}
 use Rattle.ref_sets.proofs.shared.Results.{on_ok_as}
 use Rattle.ql_eval.proofs.MeterLemmas.{both_bounded, both_spent, first_bounded, found_well, plan_bounded, plan_spent, steps_spent, steps_within}
@@ -74,3 +75,51 @@ returns-in_err-charge_filters-clause-bounded g c = λ p is under there lawful cl
 pub answered-requires-clause-asked : goal.answered-requires-clause-asked
 answered-requires-clause-asked g c = λ r of.
     g.met.W.Source.still_may _ _ r c.choose_plan.ensures.later (c.requires.asked r (subst (λ (fs : List Filter). IsAskedById c.args.pick fs r) c.in_ok-plan.ensures.written.0 of))
+
+pub answered-requires-clause-base : goal.answered-requires-clause-base
+answered-requires-clause-base g c = c.in_ok-plan.ensures.written.1
+
+pub returns-in_err-charge_filters-clause-later : goal.returns-in_err-charge_filters-clause-later
+returns-in_err-charge_filters-clause-later g c = g.met.W.Source.itself _
+
+pub returns-in_err-charge_filters-clause-walked : goal.returns-in_err-charge_filters-clause-walked
+returns-in_err-charge_filters-clause-walked g c = no_value c.from_residual.result _ _ c.from_residual.ensures.1
+
+pub returns-in_err-charge_filters-clause-told : goal.returns-in_err-charge_filters-clause-told
+returns-in_err-charge_filters-clause-told g c = refused_as _ c.from_residual.result _ c.from_residual.ensures.1 (g.met.W.Source.out_of_memory _)
+
+pub returns-in_err-charge_filters-clause-named : goal.returns-in_err-charge_filters-clause-named
+returns-in_err-charge_filters-clause-named g c = no_value c.from_residual.result _ _ c.from_residual.ensures.1
+
+pub returns-in_err-charge_filters-clause-answer : goal.returns-in_err-charge_filters-clause-answer
+returns-in_err-charge_filters-clause-answer g c = λ p is under there lawful. memory_stops _ c.from_residual.ensures.1 refl
+
+pub returns-in_err-charge_filters-clause-spent : goal.returns-in_err-charge_filters-clause-spent
+returns-in_err-charge_filters-clause-spent g c = no_value c.from_residual.result _ _ c.from_residual.ensures.1
+
+pub returns-in_err-plan-clause-later : goal.returns-in_err-plan-clause-later
+returns-in_err-plan-clause-later g c = c.choose_plan.ensures.later
+
+pub returns-in_err-plan-clause-walked : goal.returns-in_err-plan-clause-walked
+returns-in_err-plan-clause-walked g c = no_value c.from_residual-in_err-plan.result _ _ c.from_residual-in_err-plan.ensures.1
+
+pub returns-in_err-plan-clause-told : goal.returns-in_err-plan-clause-told
+returns-in_err-plan-clause-told g c = refused_as _ c.from_residual-in_err-plan.result _ c.from_residual-in_err-plan.ensures.1 c.in_err-plan.ensures.told
+
+pub returns-in_err-plan-clause-named : goal.returns-in_err-plan-clause-named
+returns-in_err-plan-clause-named g c = no_value c.from_residual-in_err-plan.result _ _ c.from_residual-in_err-plan.ensures.1
+
+pub returns-in_err-plan-clause-spent : goal.returns-in_err-plan-clause-spent
+returns-in_err-plan-clause-spent g c = no_value c.from_residual-in_err-plan.result _ _ c.from_residual-in_err-plan.ensures.1
+
+pub returns-clause-later : goal.returns-clause-later
+returns-clause-later g c = g.met.W.Source.chained _ _ _ c.choose_plan.ensures.later c.answered.ensures.later
+
+pub returns-clause-walked : goal.returns-clause-walked
+returns-clause-walked g c = on_ok_as c.answered.result (λ walked. g.met.W.Source.more_walks _ _ _ c.choose_plan.ensures.later c.answered.ensures.later c.in_ok-plan.ensures.walked walked) c.answered.ensures.walked
+
+pub returns-clause-told : goal.returns-clause-told
+returns-clause-told g c = c.answered.ensures.told
+
+pub returns-clause-named : goal.returns-clause-named
+returns-clause-named g c = c.answered.ensures.named
