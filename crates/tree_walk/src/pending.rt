@@ -28,7 +28,7 @@ pub(crate) struct Pending<'a> {
     pub(crate) child: Child<'a>,
 }
 
-/// The children of a level that a walk goes into. Up to two, as many as a walk for one key goes into, take no memory.
+/// The children of a level that a walk goes into. Up to two take no memory; a walk for one key goes into one of each level.
 pub(crate) type AllPending<'a> = SmallVec<Pending<'a>, 2>;
 
 impl Default for Pending<'_> {
