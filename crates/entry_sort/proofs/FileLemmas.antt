@@ -8,7 +8,7 @@ use Rattle.osm_model.specs.Elements.{Element}
 use Rattle.osm_model.specs.Sets.{HasDistinctReferences}
 use Rattle.byte_io.specs.Pieces.{pieces}
 use Rattle.opl_codec.specs.Fields.{Each}
-use Rattle.opl_codec.specs.Files.{IsAtFault, StopsFile, spoken_of}
+use Rattle.opl_codec.specs.Files.{IsAtFault, StopsFile, without_skipped}
 use Rattle.opl_codec.specs.LineReads.{AreEnded, AreSkipped, IsEnd, IsTooLong, IsUnread, IsWholeLine, LinePlace, Says, Stops, StopsLine, Takes}
 use Rattle.opl_codec.specs.LineChanges.{IsSkipped, Spells, SpellsObject}
 use Rattle.opl_codec.specs.internal.Loading.{ReadsTo, start}
@@ -23,7 +23,7 @@ use Rattle.opl_codec.proofs.NextLemmas.{takes_more}
 use Rattle.opl_codec.proofs.LongLines.{long_is_refused}
 use Rattle.opl_codec.proofs.PieceLemmas.{pieces_join}
 use Rattle.opl_codec.proofs.ReadPieces.{some_piece}
-use Rattle.opl_codec.proofs.SpokenLines.{spoken-append, spoken-unskipped, spoken-with_skipped, unskipped}
+use Rattle.opl_codec.proofs.UnskippedLines.{unskipped_lines-append, unskipped_lines-unskipped, unskipped_lines-with_skipped, unskipped}
 use Rattle.entry_sort.specs.internal.Puts.{AreApart, HasPut, LinesRise, Put, SpellsPuts, StandsAfter, objects_of, put_of}
 use Rattle.entry_sort.proofs.GatherLemmas.{objects-push}
 
@@ -75,7 +75,7 @@ none_put = record {
 -- skipped lines put nothing
 pub puts_skipped : (lines more : List (List ℕ)) (puts : List Put) → SpellsPuts lines puts → AllByRecursion IsSkipped more → SpellsPuts (lines ++ more) puts
 puts_skipped lines more puts h none = record {
-  each = subst (λ ls. Each SpellsObject ls (objects_of puts)) (sym (spoken-with_skipped lines more none)) h.each;
+  each = subst (λ ls. Each SpellsObject ls (objects_of puts)) (sym (unskipped_lines-with_skipped lines more none)) h.each;
   stand = λ before x after e.
       let s = h.stand before x after e in
       record { front = s.front; line = s.line; back = s.back ++ more; lines_are = ap (λ ls. ls ++ more) s.lines_are ∙ append_assoc s.front (s.line ∷ s.back) more; number_is = s.number_is; each = s.each; says = s.says };
@@ -86,11 +86,11 @@ puts_skipped lines more puts h none = record {
 -- one more line puts one more object
 pub puts_more : (lines : List (List ℕ)) (line : List ℕ) (puts : List Put) (number : ℕ) (o : Element) → SpellsPuts lines puts → SpellsObject line o → number ≡ length lines + 1 → SpellsPuts (lines ++ line ∷ []) (puts ++ put_of number o ∷ [])
 puts_more lines line puts number o h says is =
-    let one : spoken_of (line ∷ []) ≡ line ∷ [] = spoken-unskipped line [] (unskipped line (changes.Put o) says) in
-    let all : spoken_of (lines ++ line ∷ []) ≡ spoken_of lines ++ line ∷ [] = spoken-append lines (line ∷ []) ∙ ap (λ ls. spoken_of lines ++ ls) one in
-    let both = each_append SpellsObject (spoken_of lines) (line ∷ []) (objects_of puts) (o ∷ []) h.each (says, tt) in
+    let one : without_skipped (line ∷ []) ≡ line ∷ [] = unskipped_lines-unskipped line [] (unskipped line (changes.Put o) says) in
+    let all : without_skipped (lines ++ line ∷ []) ≡ without_skipped lines ++ line ∷ [] = unskipped_lines-append lines (line ∷ []) ∙ ap (λ ls. without_skipped lines ++ ls) one in
+    let both = each_append SpellsObject (without_skipped lines) (line ∷ []) (objects_of puts) (o ∷ []) h.each (says, tt) in
     record {
-      each = subst (λ ls. Each SpellsObject ls (objects_of (puts ++ put_of number o ∷ []))) (sym all) (subst (λ os. Each SpellsObject (spoken_of lines ++ line ∷ []) os) (sym (objects-push puts number o)) both);
+      each = subst (λ ls. Each SpellsObject ls (objects_of (puts ++ put_of number o ∷ []))) (sym all) (subst (λ os. Each SpellsObject (without_skipped lines ++ line ∷ []) os) (sym (objects-push puts number o)) both);
       stand = λ before x after e.
           elim (split_more puts (put_of number o) before x after e) [
             | inl last ↦ record {
@@ -99,7 +99,7 @@ puts_more lines line puts number o h says is =
               back = [];
               lines_are = refl;
               number_is = ap (λ (p : Put). p.line) (sym last.1) ∙ is;
-              each = subst (λ (ps : List Put). Each SpellsObject (spoken_of lines) (objects_of ps)) last.0 h.each;
+              each = subst (λ (ps : List Put). Each SpellsObject (without_skipped lines) (objects_of ps)) last.0 h.each;
               says = subst (λ (p : Put). SpellsObject line p.object) last.1 says;
             }
             | inr more ↦

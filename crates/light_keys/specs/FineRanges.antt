@@ -3,7 +3,7 @@
 use Rattle.std.specs.List.{flat_map, range_with_len}
 use Rattle.std.specs.Prelude.{◌≡◌, ℕ, ◌+◌, ◌-◌, List, [], ◌∷◌, ◌⊎◌, map, ℤ, ◌≤ℤ◌, ◌<ℤ◌, true}
 use Rattle.osm_model.specs.Boxes.{ExactBox}
-use Rattle.osm_model.specs.Edges.{IsAbove, IsCeiling, IsFloor}
+use Rattle.osm_model.specs.Edges.{IsGreater, IsCeiling, IsFloor}
 use Rattle.osm_model.specs.Places.{IsPlace}
 use Rattle.tree_walk.specs.Ranges.{Range}
 use Rattle.light_keys.specs.FineKeys.{fine_column, fine_corner, fine_row, last_fine_column}
@@ -21,8 +21,8 @@ AreFineRows south north rows =
 -- 180th meridian goes from west to the last column, and from column 0 to east.
 abbrev pub AreFineColumns : ExactBox → ℤ → ℤ → List (ℕ × ℕ) → Type 0
 AreFineColumns b west east columns =
-    (IsAbove b.west.value b.east.value × (columns ≡ (fine_column west, last_fine_column) ∷ (0, fine_column east) ∷ []))
-    ⊎ ((¬ IsAbove b.west.value b.east.value) × (((east <ℤ west) × (columns ≡ [])) ⊎ ((west ≤ℤ east) × (columns ≡ (fine_column west, fine_column east) ∷ []))))
+    (IsGreater b.west.value b.east.value × (columns ≡ (fine_column west, last_fine_column) ∷ (0, fine_column east) ∷ []))
+    ⊎ ((¬ IsGreater b.west.value b.east.value) × (((east <ℤ west) × (columns ≡ [])) ⊎ ((west ≤ℤ east) × (columns ≡ (fine_column west, fine_column east) ∷ []))))
 
 -- the ranges of the fine cells that a box meets: row by row from the south, with the least units that aren't below its
 -- southern and western edges and the greatest that aren't above its northern and eastern ones. These make two

@@ -5,7 +5,7 @@ use Rattle.ql_eval.specs.declared.evaluation.Report.{Report}
 use Rattle.tree_node.specs.Outcomes.{Clash}
 use Rattle.osm_keys.specs.Publications.{IsNodeIn, IsPublication, Publication, root_of}
 use Rattle.ql_syntax.specs.Queries.{HasFault}
-use Rattle.osm_prove.specs.Budgets.{IsTooMuch, IsWithin, IsWorkOf}
+use Rattle.osm_prove.specs.Budgets.{IsTooMuch, IsWithinBudget, IsWorkOf}
 use Rattle.osm_check.specs.Telling.{IsShown, IsTold}
 use Rattle.osm_check.specs.Verdicts.{IsReadable, IsRisingProof, StandsIn}
 use Rattle.osm_check.specs.declared.told.Told.TheVariants.{No}
@@ -52,7 +52,7 @@ IsFaultOf w named proof fault = ⊥
 pub record IsShownWithin (w : Wanted) (proof text : List ℕ) (report : Report) : Type 0 where
   pub shown : IsShown w.query w.root w.form proof text report
   pub within : (p : Publication) → IsPublication p → w.root ≡ root_of p → ¬ Clash (IsNodeIn p) (StandsIn proof)
-      → IsWithin (IsWorkOf (form_text w.form) p w.query) w.most
+      → IsWithinBudget (IsWorkOf (form_text w.form) p w.query) w.most
 
 -- what is shown is right: an answer is shown by the proof, and a fault is true of the query, or of the reply
 abbrev pub IsRightly : Wanted → (named proof : List ℕ) → Shown → Type 0

@@ -8,7 +8,7 @@ pub mod EachLemmas
 pub mod LineLemmas
 pub mod StepLemmas
 pub mod NextLemmas
-pub mod SpokenLines
+pub mod UnskippedLines
 pub mod ReferenceLists
 pub mod ReadFiles
 pub mod ChangeFileLemmas

@@ -25,7 +25,7 @@ use Rattle.opl_codec.specs.LineFaults.{HasLongLine as LineIsLong}
 use Rattle.opl_codec.specs.LineParts.{AreTags, IsBodyOf, Says, meta_of, tags_of}
 use Rattle.opl_codec.specs.Members.{MembersFit, SpellsMember, SpellsMembers}
 use Rattle.opl_codec.specs.Texts.{SpellsText}
-use Rattle.opl_codec.specs.Values.{IsWithin, SpellsCoordinate, SpellsNodes, SpellsTag, TagsFit, items}
+use Rattle.opl_codec.specs.Values.{FitsAxis, SpellsCoordinate, SpellsNodes, SpellsTag, TagsFit, items}
 use Rattle.opl_codec.specs.internal.LineObjects.{HoldsParts, LacksPlace}
 use Rattle.opl_codec.specs.declared.line_letter.LineLetter.TheVariants as letters
 use Rattle.opl_codec.specs.declared.line_parts.LineParts.{LineParts}
@@ -110,11 +110,11 @@ members_kept rest p says =
     (λ text members h. (h.1, λ k d lt. all_places RoleIsClean members k d (roles_clean (items text) members h.0) lt)) (says letters.Members))
 
 -- coordinates are within their ranges
-pub lon_kept : (rest : List (List ℕ)) (p : LineParts) → Says rest p → MatchOption p.lon ⊤ (λ lon. IsWithin axes.Lon lon)
-lon_kept rest p says = kept (field 120 rest) p.lon (λ text lon. SpellsCoordinate text lon × IsWithin axes.Lon lon) (λ lon. IsWithin axes.Lon lon) (λ text lon h. h.1) (says letters.Lon)
+pub lon_kept : (rest : List (List ℕ)) (p : LineParts) → Says rest p → MatchOption p.lon ⊤ (λ lon. FitsAxis axes.Lon lon)
+lon_kept rest p says = kept (field 120 rest) p.lon (λ text lon. SpellsCoordinate text lon × FitsAxis axes.Lon lon) (λ lon. FitsAxis axes.Lon lon) (λ text lon h. h.1) (says letters.Lon)
 
-pub lat_kept : (rest : List (List ℕ)) (p : LineParts) → Says rest p → MatchOption p.lat ⊤ (λ lat. IsWithin axes.Lat lat)
-lat_kept rest p says = kept (field 121 rest) p.lat (λ text lat. SpellsCoordinate text lat × IsWithin axes.Lat lat) (λ lat. IsWithin axes.Lat lat) (λ text lat h. h.1) (says letters.Lat)
+pub lat_kept : (rest : List (List ℕ)) (p : LineParts) → Says rest p → MatchOption p.lat ⊤ (λ lat. FitsAxis axes.Lat lat)
+lat_kept rest p says = kept (field 121 rest) p.lat (λ text lat. SpellsCoordinate text lat × FitsAxis axes.Lat lat) (λ lat. FitsAxis axes.Lat lat) (λ text lat h. h.1) (says letters.Lat)
 
 -- ---- the parts keep the limits of an object
 

@@ -14,7 +14,7 @@ use Rattle.opl_codec.specs.LineParts.{AreTags, IsMissing, IsSpelled, Says}
 use Rattle.opl_codec.specs.Members.{SpellsMembers, MembersFit}
 use Rattle.opl_codec.specs.Texts.{SpellsText}
 use Rattle.opl_codec.specs.ValueFaults.{FirstFault, further_by, items_len}
-use Rattle.opl_codec.specs.Values.{items, SpellsVersion, SpellsVisible, SpellsNumber, SpellsStamp, SpellsCoordinate, IsWithin, SpellsNodes}
+use Rattle.opl_codec.specs.Values.{items, SpellsVersion, SpellsVisible, SpellsNumber, SpellsStamp, SpellsCoordinate, FitsAxis, SpellsNodes}
 use Rattle.opl_codec.specs.internal.ItemPlaces.{escape_within, tag_within, node_within}
 use Rattle.opl_codec.specs.internal.ListParts.{place_in}
 use Rattle.opl_codec.specs.internal.MemberPlaces.{member_within}
@@ -124,8 +124,8 @@ spelled_said letters.Stamp text p h = there p.stamp (SpellsStamp text) h
 spelled_said letters.Uid text p h = there p.uid (SpellsNumber text) h
 spelled_said letters.User text p h = there p.user (λ user. SpellsText text user × IsShort user) h
 spelled_said letters.Tags text p h = there p.tags (AreTags text) h
-spelled_said letters.Lon text p h = there p.lon (λ lon. SpellsCoordinate text lon × IsWithin axes.Lon lon) h
-spelled_said letters.Lat text p h = there p.lat (λ lat. SpellsCoordinate text lat × IsWithin axes.Lat lat) h
+spelled_said letters.Lon text p h = there p.lon (λ lon. SpellsCoordinate text lon × FitsAxis axes.Lon lon) h
+spelled_said letters.Lat text p h = there p.lat (λ lat. SpellsCoordinate text lat × FitsAxis axes.Lat lat) h
 spelled_said letters.Nodes text p h = there p.nodes (λ nodes. SpellsNodes text nodes × (length nodes ≤ LIST_LIMIT)) h
 spelled_said letters.Members text p h = there p.members (λ members. SpellsMembers text members × MembersFit members) h
 
@@ -152,8 +152,8 @@ kept letters.Stamp found old new e h = kept_one found SpellsStamp old.stamp new.
 kept letters.Uid found old new e h = kept_one found SpellsNumber old.uid new.uid e h
 kept letters.User found old new e h = kept_one found (λ text user. SpellsText text user × IsShort user) old.user new.user e h
 kept letters.Tags found old new e h = kept_one found AreTags old.tags new.tags e h
-kept letters.Lon found old new e h = kept_one found (λ text lon. SpellsCoordinate text lon × IsWithin axes.Lon lon) old.lon new.lon e h
-kept letters.Lat found old new e h = kept_one found (λ text lat. SpellsCoordinate text lat × IsWithin axes.Lat lat) old.lat new.lat e h
+kept letters.Lon found old new e h = kept_one found (λ text lon. SpellsCoordinate text lon × FitsAxis axes.Lon lon) old.lon new.lon e h
+kept letters.Lat found old new e h = kept_one found (λ text lat. SpellsCoordinate text lat × FitsAxis axes.Lat lat) old.lat new.lat e h
 kept letters.Nodes found old new e h = kept_one found (λ text nodes. SpellsNodes text nodes × (length nodes ≤ LIST_LIMIT)) old.nodes new.nodes e h
 kept letters.Members found old new e h = kept_one found (λ text members. SpellsMembers text members × MembersFit members) old.members new.members e h
 

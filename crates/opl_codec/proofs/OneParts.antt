@@ -18,7 +18,7 @@ use Rattle.opl_codec.specs.LineLetters.{letter_byte}
 use Rattle.opl_codec.specs.LineParts.{AreTags, Says, meta_of, tags_of}
 use Rattle.opl_codec.specs.Members.{SpellsReference, SpellsMembers, MembersFit}
 use Rattle.opl_codec.specs.Texts.{SpellsText}
-use Rattle.opl_codec.specs.Values.{SpellsVersion, SpellsVisible, SpellsNumber, SpellsStamp, SpellsCoordinate, IsWithin, SpellsNodes}
+use Rattle.opl_codec.specs.Values.{SpellsVersion, SpellsVisible, SpellsNumber, SpellsStamp, SpellsCoordinate, FitsAxis, SpellsNodes}
 use Rattle.opl_codec.specs.declared.line_letter.LineLetter.TheVariants as letters
 use Rattle.opl_codec.specs.declared.line_parts.LineParts.{LineParts}
 use Rattle.opl_codec.proofs.shared.TextLaws.{one_text}
@@ -83,8 +83,8 @@ said_once rest p q h k = record {
   uid = one_part SpellsNumber one_number (field (letter_byte letters.Uid) rest) p.uid q.uid (h letters.Uid) (k letters.Uid);
   user = one_part (λ text user. SpellsText text user × IsShort user) (λ text x y s t. one_text text x y s.0 t.0) (field (letter_byte letters.User) rest) p.user q.user (h letters.User) (k letters.User);
   tags = tags_but_for_order (field (letter_byte letters.Tags) rest) p.tags q.tags (h letters.Tags) (k letters.Tags);
-  lon = one_part (λ text lon. SpellsCoordinate text lon × IsWithin axes.Lon lon) (λ text x y s t. one_coordinate text x y s.0 t.0) (field (letter_byte letters.Lon) rest) p.lon q.lon (h letters.Lon) (k letters.Lon);
-  lat = one_part (λ text lat. SpellsCoordinate text lat × IsWithin axes.Lat lat) (λ text x y s t. one_coordinate text x y s.0 t.0) (field (letter_byte letters.Lat) rest) p.lat q.lat (h letters.Lat) (k letters.Lat);
+  lon = one_part (λ text lon. SpellsCoordinate text lon × FitsAxis axes.Lon lon) (λ text x y s t. one_coordinate text x y s.0 t.0) (field (letter_byte letters.Lon) rest) p.lon q.lon (h letters.Lon) (k letters.Lon);
+  lat = one_part (λ text lat. SpellsCoordinate text lat × FitsAxis axes.Lat lat) (λ text x y s t. one_coordinate text x y s.0 t.0) (field (letter_byte letters.Lat) rest) p.lat q.lat (h letters.Lat) (k letters.Lat);
   nodes = one_part (λ text nodes. SpellsNodes text nodes × (length nodes ≤ LIST_LIMIT)) (λ text x y s t. one_nodes text x y s.0 t.0) (field (letter_byte letters.Nodes) rest) p.nodes q.nodes (h letters.Nodes) (k letters.Nodes);
   members = one_part (λ text members. SpellsMembers text members × MembersFit members) (λ text x y s t. one_members text x y s.0 t.0) (field (letter_byte letters.Members) rest) p.members q.members (h letters.Members) (k letters.Members);
 }

@@ -24,7 +24,7 @@ use Rattle.opl_codec.specs.LineParts.{AreTags, IsMissing, IsSpelled}
 use Rattle.opl_codec.specs.Members.{SpellsMembers, MembersFit}
 use Rattle.opl_codec.specs.Texts.{SpellsText}
 use Rattle.opl_codec.specs.ValueFaults.{TagsFault}
-use Rattle.opl_codec.specs.Values.{SpellsVersion, SpellsVisible, SpellsNumber, SpellsStamp, SpellsCoordinate, IsWithin, SpellsNodes, TagsFit}
+use Rattle.opl_codec.specs.Values.{SpellsVersion, SpellsVisible, SpellsNumber, SpellsStamp, SpellsCoordinate, FitsAxis, SpellsNodes, TagsFit}
 use Rattle.opl_codec.specs.declared.line_letter.LineLetter.{LineLetter}
 use Rattle.opl_codec.specs.declared.line_letter.LineLetter.TheVariants as letters
 use Rattle.opl_codec.specs.declared.line_parts.LineParts.{LineParts}
@@ -76,8 +76,8 @@ not_bad_field letters.Stamp text p fault other bad h = not_unspelled (SpellsStam
 not_bad_field letters.Uid text p fault other bad h = not_unspelled (SpellsNumber text) p.uid fault bad h
 not_bad_field letters.User text p fault other bad h = not_bad_user text p.user fault other bad h
 not_bad_field letters.Tags text p fault other bad h = not_bad_part p.tags (AreTags text) (λ tags is. not_bad_tag_list text fault tags other bad is) h
-not_bad_field letters.Lon text p fault other bad h = not_bad_part p.lon (λ lon. SpellsCoordinate text lon × IsWithin axes.Lon lon) (λ lon is. not_bad_coordinate axes.Lon text fault lon bad is.0 is.1) h
-not_bad_field letters.Lat text p fault other bad h = not_bad_part p.lat (λ lat. SpellsCoordinate text lat × IsWithin axes.Lat lat) (λ lat is. not_bad_coordinate axes.Lat text fault lat bad is.0 is.1) h
+not_bad_field letters.Lon text p fault other bad h = not_bad_part p.lon (λ lon. SpellsCoordinate text lon × FitsAxis axes.Lon lon) (λ lon is. not_bad_coordinate axes.Lon text fault lon bad is.0 is.1) h
+not_bad_field letters.Lat text p fault other bad h = not_bad_part p.lat (λ lat. SpellsCoordinate text lat × FitsAxis axes.Lat lat) (λ lat is. not_bad_coordinate axes.Lat text fault lat bad is.0 is.1) h
 not_bad_field letters.Nodes text p fault other bad h = not_bad_part p.nodes (λ nodes. SpellsNodes text nodes × (length nodes ≤ LIST_LIMIT)) (λ nodes is. not_bad_nodes text fault nodes other bad is.0 is.1) h
 not_bad_field letters.Members text p fault other bad h = not_bad_part p.members (λ members. SpellsMembers text members × MembersFit members) (λ members is. not_bad_members text fault members other bad is.0 is.1) h
 

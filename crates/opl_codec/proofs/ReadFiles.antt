@@ -7,7 +7,7 @@ use Rattle.osm_model.specs.Elements.{Element}
 use Rattle.osm_model.specs.Sets.{HasDistinctReferences}
 use Rattle.byte_io.specs.Pieces.{pieces}
 use Rattle.opl_codec.specs.Fields.{Each}
-use Rattle.opl_codec.specs.Files.{IsAtFault, IsNoChange, PutSet, SpellsChanges, StopsAt, StopsChanges, StopsFile, spoken_of}
+use Rattle.opl_codec.specs.Files.{IsAtFault, IsNoChange, PutSet, SpellsChanges, StopsAt, StopsChanges, StopsFile, without_skipped}
 use Rattle.opl_codec.specs.LineReads.{AreEnded, AreSkipped, Ends, IsEnd, IsRefused, IsUnread, IsWholeLine, LinePlace, Says, Stops, StopsLine, Takes, no_memory}
 use Rattle.opl_codec.specs.LineChanges.{IsSkipped, Spells, SpellsObject}
 use Rattle.opl_codec.specs.LineReaders.{place, unread}
@@ -24,7 +24,7 @@ use Rattle.opl_codec.proofs.NextLemmas.{takes_more}
 use Rattle.opl_codec.proofs.LongLines.{empty_is_skipped, long_is_refused}
 use Rattle.opl_codec.proofs.PieceLemmas.{pieces_join}
 use Rattle.opl_codec.proofs.ReadPieces.{some_piece}
-use Rattle.opl_codec.proofs.SpokenLines.{spoken-append, spoken-unskipped, spoken-with_skipped, unskipped}
+use Rattle.opl_codec.proofs.UnskippedLines.{unskipped_lines-append, unskipped_lines-unskipped, unskipped_lines-with_skipped, unskipped}
 
 -- a text of lines that have ended, and what comes after it
 ended_then : (a b : List ℕ) (lines ls : List (List ℕ)) → AreEnded a lines → pieces 10 b ≡ ls → pieces 10 (a ++ b) ≡ lines ++ ls
@@ -209,14 +209,14 @@ module _ {X : Type 0} (Put : List (List ℕ) → X → Type 0) (skips : (lines m
 -- ---- a set
 
 put_skipped : (lines more : List (List ℕ)) (objects : List Element) → PutSet lines objects → AllByRecursion IsSkipped more → PutSet (lines ++ more) objects
-put_skipped lines more objects put none = record { each = subst (λ ls. Each SpellsObject ls objects) (sym (spoken-with_skipped lines more none)) put.each; apart = put.apart }
+put_skipped lines more objects put none = record { each = subst (λ ls. Each SpellsObject ls objects) (sym (unskipped_lines-with_skipped lines more none)) put.each; apart = put.apart }
 
 put_more : (lines : List (List ℕ)) (line : List ℕ) (objects : List Element) (o : Element) → PutSet lines objects → SpellsObject line o → HasDistinctReferences (objects ++ o ∷ []) → PutSet (lines ++ line ∷ []) (objects ++ o ∷ [])
 put_more lines line objects o put spells apart =
-    let one : spoken_of (line ∷ []) ≡ line ∷ [] = spoken-unskipped line [] (unskipped line (changes.Put o) spells) in
-    let all : spoken_of (lines ++ line ∷ []) ≡ spoken_of lines ++ line ∷ [] = spoken-append lines (line ∷ []) ∙ ap (λ ls. spoken_of lines ++ ls) one in
+    let one : without_skipped (line ∷ []) ≡ line ∷ [] = unskipped_lines-unskipped line [] (unskipped line (changes.Put o) spells) in
+    let all : without_skipped (lines ++ line ∷ []) ≡ without_skipped lines ++ line ∷ [] = unskipped_lines-append lines (line ∷ []) ∙ ap (λ ls. without_skipped lines ++ ls) one in
     record {
-      each = subst (λ ls. Each SpellsObject ls (objects ++ o ∷ [])) (sym all) (each_append SpellsObject (spoken_of lines) (line ∷ []) objects (o ∷ []) put.each (spells, tt));
+      each = subst (λ ls. Each SpellsObject ls (objects ++ o ∷ [])) (sym all) (each_append SpellsObject (without_skipped lines) (line ∷ []) objects (o ∷ []) put.each (spells, tt));
       apart = apart;
     }
 
@@ -256,13 +256,13 @@ put_refused (Some file) left b mid number change load objects r goes_on s (inr w
 -- ---- changes
 
 pub changes_skipped : (lines more : List (List ℕ)) (changes : List Change) → SpellsChanges lines changes → AllByRecursion IsSkipped more → SpellsChanges (lines ++ more) changes
-changes_skipped lines more changes put none = subst (λ ls. Each Spells ls changes) (sym (spoken-with_skipped lines more none)) put
+changes_skipped lines more changes put none = subst (λ ls. Each Spells ls changes) (sym (unskipped_lines-with_skipped lines more none)) put
 
 pub change_more : (changes : List Change) (change : Change) (lines : List (List ℕ)) (line : List ℕ) → SpellsChanges lines changes → Spells line change → SpellsChanges (lines ++ line ∷ []) (changes ++ change ∷ [])
 change_more changes change lines line put spells =
-    let one : spoken_of (line ∷ []) ≡ line ∷ [] = spoken-unskipped line [] (unskipped line change spells) in
-    let all : spoken_of (lines ++ line ∷ []) ≡ spoken_of lines ++ line ∷ [] = spoken-append lines (line ∷ []) ∙ ap (λ ls. spoken_of lines ++ ls) one in
-    subst (λ ls. Each Spells ls (changes ++ change ∷ [])) (sym all) (each_append Spells (spoken_of lines) (line ∷ []) changes (change ∷ []) put (spells, tt))
+    let one : without_skipped (line ∷ []) ≡ line ∷ [] = unskipped_lines-unskipped line [] (unskipped line change spells) in
+    let all : without_skipped (lines ++ line ∷ []) ≡ without_skipped lines ++ line ∷ [] = unskipped_lines-append lines (line ∷ []) ∙ ap (λ ls. without_skipped lines ++ ls) one in
+    subst (λ ls. Each Spells ls (changes ++ change ∷ [])) (sym all) (each_append Spells (without_skipped lines) (line ∷ []) changes (change ∷ []) put (spells, tt))
 
 no_change : (changes : List Change) (line : List ℕ) (fault : OplFault) → IsRefused line fault → IsNoChange changes line fault
 no_change changes line fault refused = refused

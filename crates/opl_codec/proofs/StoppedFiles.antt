@@ -14,7 +14,7 @@ use Rattle.osm_model.proofs.shared.References.{refs_total}
 use Rattle.osm_model.proofs.shared.UniqueTags.{same_order}
 use Rattle.byte_io.specs.Pieces.{pieces}
 use Rattle.opl_codec.specs.Fields.{Each}
-use Rattle.opl_codec.specs.Files.{HoldsChanges, HoldsSet, IsAtFault, IsCutOff, IsReaderOrMemory, PutSet, SpellsChanges, StopsChanges, StopsFile, spoken_of}
+use Rattle.opl_codec.specs.Files.{HoldsChanges, HoldsSet, IsAtFault, IsCutOff, IsReaderOrMemory, PutSet, SpellsChanges, StopsChanges, StopsFile, without_skipped}
 use Rattle.opl_codec.specs.LineReads.{IsRefused, IsUnread, no_memory}
 use Rattle.opl_codec.specs.LineChanges.{IsSkipped, Spells, SpellsObject}
 use Rattle.opl_codec.specs.internal.Loading.{ReadsAll}
@@ -24,13 +24,13 @@ use Rattle.opl_codec.specs.declared.fault.LoadFault.{LoadFault}
 use Rattle.opl_codec.specs.declared.fault.OplFault.{OplFault}
 use Rattle.opl_codec.proofs.EachLemmas.{each_front, each_same}
 use Rattle.opl_codec.proofs.shared.OneChange.{one_change}
-use Rattle.opl_codec.proofs.SpokenLines.{spoken-append, spoken-unskipped, unskipped}
+use Rattle.opl_codec.proofs.UnskippedLines.{unskipped_lines-append, unskipped_lines-unskipped, unskipped}
 use Rattle.opl_codec.proofs.shared.OnePut.{one_object}
 
 -- a file holds one set at most
 pub one_set : (file : List ℕ) (a b : List Element) → HoldsSet file a → HoldsSet file b → a ≡ b
 one_set file a b h k =
-    let same : h.written ≡ k.written = each_same SpellsObject one_object (spoken_of (pieces 10 file)) h.written k.written h.each k.each in
+    let same : h.written ≡ k.written = each_same SpellsObject one_object (without_skipped (pieces 10 file)) h.written k.written h.each k.each in
     same_order (λ (o : Element). reference o) refs_total k.written a b (subst (λ w. IsPermutation w a) same h.order) k.order h.set.rising k.set.rising
 
 -- what a set's file says has no reference twice
@@ -59,12 +59,12 @@ module _ (file : List ℕ) (left : Option (List ℕ)) (load : LoadFault) (object
   -- the line puts the object that comes next
   next_object : (IsSkipped s.line → ⊥) → (o : Element) × (more : List Element) × (h.written ≡ s.found ++ o ∷ more) × SpellsObject s.line o
   next_object some =
-      let parts : spoken_of (pieces 10 file) ≡ spoken_of s.before ++ s.line ∷ spoken_of s.after =
-      ap spoken_of s.lines_are ∙ spoken-append s.before (s.line ∷ s.after) ∙ ap (λ ls. spoken_of s.before ++ ls) (spoken-unskipped s.line s.after some) in
-      let front = each_front SpellsObject one_object (spoken_of s.before) (s.line ∷ spoken_of s.after) s.found h.written s.put.each (subst (λ ls. Each SpellsObject ls h.written) parts h.each) in
+      let parts : without_skipped (pieces 10 file) ≡ without_skipped s.before ++ s.line ∷ without_skipped s.after =
+      ap without_skipped s.lines_are ∙ unskipped_lines-append s.before (s.line ∷ s.after) ∙ ap (λ ls. without_skipped s.before ++ ls) (unskipped_lines-unskipped s.line s.after some) in
+      let front = each_front SpellsObject one_object (without_skipped s.before) (s.line ∷ without_skipped s.after) s.found h.written s.put.each (subst (λ ls. Each SpellsObject ls h.written) parts h.each) in
       first front.0 front.1 front.2
     where
-      first : (rest : List Element) → h.written ≡ s.found ++ rest → Each SpellsObject (s.line ∷ spoken_of s.after) rest → (o : Element) × (more : List Element) × (h.written ≡ s.found ++ o ∷ more) × SpellsObject s.line o
+      first : (rest : List Element) → h.written ≡ s.found ++ rest → Each SpellsObject (s.line ∷ without_skipped s.after) rest → (o : Element) × (more : List Element) × (h.written ≡ s.found ++ o ∷ more) × SpellsObject s.line o
       first [] is each = absurd each
       first (o ∷ more) is each = (o, more, is, each.0)
 
@@ -115,17 +115,17 @@ holds_known known objects set all order is_set = Consumes-whole known all.left a
 
 -- a file holds one list of changes at most
 pub one_list : (file : List ℕ) (a b : List Change) → HoldsChanges file a → HoldsChanges file b → a ≡ b
-one_list file a b h k = each_same Spells one_change (spoken_of (pieces 10 file)) a b h k
+one_list file a b h k = each_same Spells one_change (without_skipped (pieces 10 file)) a b h k
 
 module _ (file : List ℕ) (left : Option (List ℕ)) (load : LoadFault) (changes : List Change) (s : StopsChanges file left load) (h : HoldsChanges file changes) where
   no_refusal : IsRefused s.line load.fault → ⊥
   no_refusal refused =
-      let parts : spoken_of (pieces 10 file) ≡ spoken_of s.before ++ s.line ∷ spoken_of s.after =
-      ap spoken_of s.lines_are ∙ spoken-append s.before (s.line ∷ s.after) ∙ ap (λ ls. spoken_of s.before ++ ls) (spoken-unskipped s.line s.after refused.unskipped) in
-      let front = each_front Spells one_change (spoken_of s.before) (s.line ∷ spoken_of s.after) s.found changes s.put (subst (λ ls. Each Spells ls changes) parts h) in
+      let parts : without_skipped (pieces 10 file) ≡ without_skipped s.before ++ s.line ∷ without_skipped s.after =
+      ap without_skipped s.lines_are ∙ unskipped_lines-append s.before (s.line ∷ s.after) ∙ ap (λ ls. without_skipped s.before ++ ls) (unskipped_lines-unskipped s.line s.after refused.unskipped) in
+      let front = each_front Spells one_change (without_skipped s.before) (s.line ∷ without_skipped s.after) s.found changes s.put (subst (λ ls. Each Spells ls changes) parts h) in
       first front.0 front.2
     where
-      first : (rest : List Change) → Each Spells (s.line ∷ spoken_of s.after) rest → ⊥
+      first : (rest : List Change) → Each Spells (s.line ∷ without_skipped s.after) rest → ⊥
       first [] each = each
       first (change ∷ more) each = refused.unspelled change each.0
 

@@ -23,17 +23,17 @@ use Rattle.opl_codec.specs.declared.fault.LoadFault.{LoadFault}
 use Rattle.opl_codec.specs.declared.fault.OplFault.{OplFault}
 
 -- the lines that say something
-abbrev pub spoken_of : List (List ℕ) → List (List ℕ)
-spoken_of lines = filter (λ line. not (is_skipped line)) lines
+abbrev pub without_skipped : List (List ℕ) → List (List ℕ)
+without_skipped lines = filter (λ line. not (is_skipped line)) lines
 
 -- the lines of a file that say something; its last line may lack its LF
-abbrev pub spoken : List ℕ → List (List ℕ)
-spoken file = spoken_of (pieces line_feed file)
+abbrev pub unskipped_lines : List ℕ → List (List ℕ)
+unskipped_lines file = without_skipped (pieces line_feed file)
 
 -- the file's lines are the objects of the set, each once, in any order
 pub record HoldsSet (file : List ℕ) (objects : List Element) : Type 0 where
   pub written : List Element
-  pub each : Each SpellsObject (spoken file) written
+  pub each : Each SpellsObject (unskipped_lines file) written
   pub order : IsPermutation written objects
   pub set : IsObjectSet objects
 
@@ -43,7 +43,7 @@ IsReaderOrMemory cause = (cause ≡ causes.ReaderFailed) ⊎ ((cause ≡ causes.
 
 -- these lines put these objects, no two of one reference
 pub record PutSet (lines : List (List ℕ)) (objects : List Element) : Type 0 where
-  pub each : Each SpellsObject (spoken_of lines) objects
+  pub each : Each SpellsObject (without_skipped lines) objects
   pub apart : HasDistinctReferences objects
 
 -- after lines that put these objects this line can't be read: it has a fault, it deletes an object, or
@@ -81,7 +81,7 @@ StopsFile file left load = StopsAt PutSet IsAtFault file left load
 
 -- the lines that say something are these changes, in order
 abbrev pub SpellsChanges : List (List ℕ) → List Change → Type 0
-SpellsChanges lines changes = Each Spells (spoken_of lines) changes
+SpellsChanges lines changes = Each Spells (without_skipped lines) changes
 
 -- the lines of the file are these changes, in order
 abbrev pub HoldsChanges : List ℕ → List Change → Type 0

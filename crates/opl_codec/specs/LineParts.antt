@@ -14,7 +14,7 @@ use Rattle.opl_codec.specs.Fields.{field}
 use Rattle.opl_codec.specs.LineLetters.{letter_byte}
 use Rattle.opl_codec.specs.Members.{SpellsMembers, MembersFit}
 use Rattle.opl_codec.specs.Texts.{SpellsText}
-use Rattle.opl_codec.specs.Values.{SpellsVersion, SpellsVisible, SpellsNumber, SpellsStamp, SpellsCoordinate, IsWithin, SpellsTags, SpellsNodes, TagsFit}
+use Rattle.opl_codec.specs.Values.{SpellsVersion, SpellsVisible, SpellsNumber, SpellsStamp, SpellsCoordinate, FitsAxis, SpellsTags, SpellsNodes, TagsFit}
 use Rattle.opl_codec.specs.declared.line_letter.LineLetter.{LineLetter}
 use Rattle.opl_codec.specs.declared.line_letter.LineLetter.TheVariants as letters
 use Rattle.opl_codec.specs.declared.line_parts.LineParts.{LineParts}
@@ -49,8 +49,8 @@ IsSpelled letters.Stamp text p = MatchOption p.stamp ⊥ (λ stamp. SpellsStamp 
 IsSpelled letters.Uid text p = MatchOption p.uid ⊥ (λ uid. SpellsNumber text uid)
 IsSpelled letters.User text p = MatchOption p.user ⊥ (λ user. SpellsText text user × IsShort user)
 IsSpelled letters.Tags text p = MatchOption p.tags ⊥ (λ tags. AreTags text tags)
-IsSpelled letters.Lon text p = MatchOption p.lon ⊥ (λ lon. SpellsCoordinate text lon × IsWithin axes.Lon lon)
-IsSpelled letters.Lat text p = MatchOption p.lat ⊥ (λ lat. SpellsCoordinate text lat × IsWithin axes.Lat lat)
+IsSpelled letters.Lon text p = MatchOption p.lon ⊥ (λ lon. SpellsCoordinate text lon × FitsAxis axes.Lon lon)
+IsSpelled letters.Lat text p = MatchOption p.lat ⊥ (λ lat. SpellsCoordinate text lat × FitsAxis axes.Lat lat)
 IsSpelled letters.Nodes text p = MatchOption p.nodes ⊥ (λ nodes. SpellsNodes text nodes × (length nodes ≤ LIST_LIMIT))
 IsSpelled letters.Members text p = MatchOption p.members ⊥ (λ members. SpellsMembers text members × MembersFit members)
 

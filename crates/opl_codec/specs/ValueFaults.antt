@@ -9,7 +9,7 @@ use Rattle.osm_model.specs.declared.limits.TheConstants.{LIST_LIMIT}
 use Rattle.osm_model.specs.declared.tag.Tag.{Tag}
 use Rattle.opl_codec.specs.Fields.{Each}
 use Rattle.opl_codec.specs.Texts.{IsText, TextMisfit, BadEscapeIn}
-use Rattle.opl_codec.specs.Values.{items, IsWithin, SpellsCoordinate, SpellsNode, SpellsNumber, SpellsTag, SpellsTags, TagsFit}
+use Rattle.opl_codec.specs.Values.{items, FitsAxis, SpellsCoordinate, SpellsNode, SpellsNumber, SpellsTag, SpellsTags, TagsFit}
 use Rattle.opl_codec.specs.declared.value_fault.ValueFault.{ValueFault}
 use Rattle.opl_codec.specs.declared.value_fault.ValueFault.TheVariants as faults
 
@@ -26,7 +26,7 @@ abbrev pub CoordinateFault : Axis → List ℕ → ValueFault → Type 0
 CoordinateFault axis text faults.Form = (coordinate : Option ℤ) → SpellsCoordinate text coordinate → ⊥
 CoordinateFault axis text (faults.Escape at) = ⊥
 CoordinateFault axis text faults.NodeLocation = ⊥
-CoordinateFault axis text faults.Limit = (coordinate : Option ℤ) × SpellsCoordinate text coordinate × (¬ (IsWithin axis coordinate))
+CoordinateFault axis text faults.Limit = (coordinate : Option ℤ) × SpellsCoordinate text coordinate × (¬ (FitsAxis axis coordinate))
 CoordinateFault axis text faults.Memory = ⊥
 
 -- the key goes so far, and then no `=` comes: the tag ends, or a byte comes that no text has

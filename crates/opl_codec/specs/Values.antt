@@ -41,8 +41,8 @@ SpellsCoordinate text None = text ≡ []
 SpellsCoordinate text (Some z) = IsDegrees text z
 
 -- the coordinate is in its axis's range
-abbrev pub IsWithin : Axis → Option ℤ → Type 0
-IsWithin axis coordinate = MatchOption coordinate ⊤ (λ z. unsigned_abs z ≤ limit axis)
+abbrev pub FitsAxis : Axis → Option ℤ → Type 0
+FitsAxis axis coordinate = MatchOption coordinate ⊤ (λ z. unsigned_abs z ≤ limit axis)
 
 -- ---- lists
 

@@ -3,7 +3,7 @@
 ghost use Rattle.std.specs.Prelude.{◌≢◌, ℕ, List, [], IfOk, IfErr};
 ghost use Rattle.osm_model.specs.Degrees.{IsFault};
 ghost use Rattle.osm_model.specs.declared.axis.Axis.{Axis};
-ghost use Rattle.opl_codec.specs.Values.{SpellsCoordinate, IsWithin};
+ghost use Rattle.opl_codec.specs.Values.{SpellsCoordinate, FitsAxis};
 ghost use Rattle.opl_codec.specs.ValueFaults.{CoordinateFault};
 
 use crate::value_fault::ValueFault;
@@ -11,7 +11,7 @@ use osm_model::{Axis, ModelFault, read_degrees};
 
 /// A coordinate, in 1e-7 degree, or `None` where there is no text.
 pub(crate) fn read_degrees_field(text: &[u8], axis: Axis) -> Result<Option<i32>, ValueFault>
-    ensures read { IfOk result (λ found. SpellsCoordinate text.now found × IsWithin axis found) }
+    ensures read { IfOk result (λ found. SpellsCoordinate text.now found × FitsAxis axis found) }
     ensures refused { IfErr result (λ fault. CoordinateFault axis text.now fault) }
 {
     if text.is_empty() {

@@ -6,7 +6,7 @@ ghost use Rattle.osm_model.specs.declared.axis.Axis.TheVariants as axes;
 ghost use Rattle.osm_model.specs.declared.kind.Kind.TheVariants as kinds;
 ghost use Rattle.opl_codec.specs.LineChanges.{SpellsParts, SpellsObject};
 ghost use Rattle.opl_codec.specs.LineFaults.{StandsAt};
-ghost use Rattle.opl_codec.specs.Values.{IsWithin};
+ghost use Rattle.opl_codec.specs.Values.{FitsAxis};
 ghost use Rattle.opl_codec.specs.internal.LineObjects.{IsBodyWith, LacksPlace};
 ghost use Rattle.opl_codec.specs.declared.cause.OplCause.TheVariants as OplCause;
 
@@ -81,8 +81,8 @@ fn tags_of(alloc: Global, tags: Option<TagList>) -> Vec<Tag>
 
 /// The location, where both coordinates are there.
 fn place_of(lon: Option<Option<i32>>, lat: Option<Option<i32>>) -> Option<Coord>
-    requires lon_within { MatchOption lon ⊤ (λ lon. IsWithin axes.Lon lon) }
-    requires lat_within { MatchOption lat ⊤ (λ lat. IsWithin axes.Lat lat) }
+    requires lon_within { MatchOption lon ⊤ (λ lon. FitsAxis axes.Lon lon) }
+    requires lat_within { MatchOption lat ⊤ (λ lat. FitsAxis axes.Lat lat) }
     ensures { MatchOption result (LacksPlace lon lat) (λ place. (lon ≡ Some (Some place.lon))
         × (lat ≡ Some (Some place.lat))) }
 {

@@ -10,7 +10,7 @@ use Rattle.osm_model.specs.declared.kind.Kind.{Kind}
 use Rattle.osm_model.specs.declared.kind.Kind.TheVariants as kinds
 use Rattle.osm_model.specs.Elements.{reference}
 use Rattle.opl_codec.specs.Fields.{Each}
-use Rattle.opl_codec.specs.Files.{HoldsChanges, spoken_of}
+use Rattle.opl_codec.specs.Files.{HoldsChanges, without_skipped}
 use Rattle.opl_codec.specs.LineChanges.{Spells, is_skipped}
 use Rattle.opl_codec.specs.LineFields.{is_comment}
 use Rattle.opl_codec.specs.declared.change.Change.{Change}
@@ -25,10 +25,10 @@ use Rattle.osm_changes.proofs.RootLineLemmas.{AreLineFeeds, digits_lack, line_en
 -- ---- the lines of a text that say something
 
 abbrev said : List ℕ → List (List ℕ)
-said text = spoken_of (pieces line_feed text)
+said text = without_skipped (pieces line_feed text)
 
 said_over : (front rest : List ℕ) → said (front ++ line_feed ∷ rest) ≡ said front ++ said rest
-said_over front rest = ap spoken_of (pieces_over front rest) ∙ filter-append (λ line. not (is_skipped line)) (pieces line_feed front) (pieces line_feed rest)
+said_over front rest = ap without_skipped (pieces_over front rest) ∙ filter-append (λ line. not (is_skipped line)) (pieces line_feed front) (pieces line_feed rest)
 
 said_end : (front : List ℕ) → said (front ++ line_feed ∷ []) ≡ said front
 said_end front = said_over front [] ∙ append-nil (said front)
@@ -66,7 +66,7 @@ not_last (first ∷ before) line [] comment each = each
 not_last (first ∷ before) line (change ∷ all) comment each = not_last before line all comment each.1
 
 -- so where changes are held it is skipped
-comment_unsaid : (before : List (List ℕ)) (line : List ℕ) (all : List Change) → is_comment line ≡ true → Each Spells (before ++ spoken_of (line ∷ [])) all → spoken_of (line ∷ []) ≡ []
+comment_unsaid : (before : List (List ℕ)) (line : List ℕ) (all : List Change) → is_comment line ≡ true → Each Spells (before ++ without_skipped (line ∷ [])) all → without_skipped (line ∷ []) ≡ []
 comment_unsaid before line all comment each = by (is_skipped line) each
   where
     by : (b : Bool) → Each Spells (before ++ (if not b then line ∷ [] else [])) all → (if not b then line ∷ [] else []) ≡ []
@@ -80,10 +80,10 @@ kept_holds : (text kept : List ℕ) (all : List Change) → IsWithoutRootLine te
 kept_holds text kept all (inl (none, same)) holds = subst (λ (t : List ℕ). HoldsChanges t all) (sym same) holds
 kept_holds text kept all (inr (announced, after, told, is, lacks, ended, feeds)) holds =
     let line = root_words ++ announced in
-    let parts : said text ≡ said kept ++ spoken_of (line ∷ []) = ap said is ∙ said_after kept (line ++ after) ended
-    ∙ ap (λ (s : List (List ℕ)). said kept ++ s) (said_line line after feeds ∙ ap spoken_of (one_line line (words_lack announced lacks))) in
-    let each : Each Spells (said kept ++ spoken_of (line ∷ [])) all = subst (λ (s : List (List ℕ)). Each Spells s all) parts holds in
-    let none : spoken_of (line ∷ []) ≡ [] = comment_unsaid (said kept) line all refl each in
+    let parts : said text ≡ said kept ++ without_skipped (line ∷ []) = ap said is ∙ said_after kept (line ++ after) ended
+    ∙ ap (λ (s : List (List ℕ)). said kept ++ s) (said_line line after feeds ∙ ap without_skipped (one_line line (words_lack announced lacks))) in
+    let each : Each Spells (said kept ++ without_skipped (line ∷ [])) all = subst (λ (s : List (List ℕ)). Each Spells s all) parts holds in
+    let none : without_skipped (line ∷ []) ≡ [] = comment_unsaid (said kept) line all refl each in
     subst (λ (s : List (List ℕ)). Each Spells s all) (ap (λ (s : List (List ℕ)). said kept ++ s) none ∙ append-nil (said kept)) each
 
 -- with its line end
@@ -95,7 +95,7 @@ ended_said kept ended (inr (open_end, is)) = ap said is ∙ said_end kept
 short : (line : List ℕ) → length line ≡ 71 → nat_le (length line) 33554432 ≡ true
 short line len = ap (λ (n : ℕ). nat_le n 33554432) len
 
-root_unsaid : (q : Publication) → spoken_of ((root_words ++ root_digits q) ∷ []) ≡ []
+root_unsaid : (q : Publication) → without_skipped ((root_words ++ root_digits q) ∷ []) ≡ []
 root_unsaid q =
     let len : length (root_words ++ root_digits q) ≡ 71 = length-append root_words (root_digits q) ∙ ap (λ (n : ℕ). 7 + n) (digits_len q) in
     ap (λ (b : Bool). if not (b && true) then (root_words ++ root_digits q) ∷ [] else []) (short (root_words ++ root_digits q) len)
@@ -109,7 +109,7 @@ held_again text written q all line holds =
     let same : said written ≡ said line.kept =
     ap said is
     ∙ said_after line.ended (own ++ line_feed ∷ []) (line_ended line.kept line.ended line.line_end)
-    ∙ ap (λ (s : List (List ℕ)). said line.ended ++ s) (said_end own ∙ ap spoken_of (one_line own (words_lack digits (digits_lack (root_of q)))) ∙ root_unsaid q)
+    ∙ ap (λ (s : List (List ℕ)). said line.ended ++ s) (said_end own ∙ ap without_skipped (one_line own (words_lack digits (digits_lack (root_of q)))) ∙ root_unsaid q)
     ∙ append-nil (said line.ended)
     ∙ ended_said line.kept line.ended line.line_end in
     subst (λ (s : List (List ℕ)). Each Spells s all) (sym same) (kept_holds text line.kept all line.without holds)

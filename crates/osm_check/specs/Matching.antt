@@ -1,7 +1,7 @@
 -- What a matcher knows of a text that was compared with the one that is expected.
 -- Source: this project.
 use Rattle.std.specs.Prelude.{ℕ, suc, ◌≡◌, ◌≢◌, ◌<◌, Option, Some, None, List, [], ◌∷◌, length, take, slice_get, ◌==◌, if◌then◌else◌}
-use Rattle.ql_eval.specs.Lengths.{capped}
+use Rattle.ql_eval.specs.Lengths.{saturating_u64}
 
 -- how many bytes at the front of both texts are the same
 abbrev pub common : List ℕ → List ℕ → ℕ
@@ -21,4 +21,4 @@ IsParted expected text (Some place) = (common expected text ≡ place) × (place
 
 -- the length and the first place are this text's; a length at its greatest is perhaps that of a longer one
 abbrev pub Matches : List ℕ → ℕ → Option ℕ → List ℕ → Type 0
-Matches expected len first text = (len ≡ capped (length text)) × IsParted expected text first
+Matches expected len first text = (len ≡ saturating_u64 (length text)) × IsParted expected text first

@@ -135,7 +135,7 @@ fn number_of_cause(cause: QlCause) -> u32
         QlCause::BadEscape => 4,
         QlCause::UnexpectedWord => 5,
         QlCause::NumberOutOfRange => 6,
-        QlCause::OutsideProfile => 7,
+        QlCause::Unsupported => 7,
         QlCause::TooDeep => 8,
         QlCause::TooLong => 9,
         QlCause::BadBox => 10,

@@ -5,7 +5,7 @@ use Rattle.std.proofs.lemmas.Bool.{true≢false}
 use Rattle.osm_forms.specs.Forms.{form_text}
 use Rattle.osm_forms.specs.declared.form.Form.TheVariants.{Opl}
 use Rattle.osm_keys.specs.Publications.{Publication, root_of}
-use Rattle.osm_prove.specs.Budgets.{IsTooMuch, IsWithin, IsWorkOf}
+use Rattle.osm_prove.specs.Budgets.{IsTooMuch, IsWithinBudget, IsWorkOf}
 use Rattle.osm_prove.specs.Proved.{IsAnswer, IsProved}
 use Rattle.ql_syntax.specs.Queries.{HasFault, Reads}
 use Rattle.ql_syntax.specs.Statements.{Statements}
@@ -25,7 +25,7 @@ use Rattle.osm_gate.specs.internal.Adding.{AddsFault, AddsResponse}
 -- ---- budgets
 
 given_within : (most : Option ℕ) (endpoint : Endpoint) (closes : Bool) (p : Publication) (query : List ℕ) (r : Response) → GivesAt endpoint closes p query r
-    → IsWithin (IsWorkOf (form_text Opl) p query) most → GivesWithin most endpoint closes p query r
+    → IsWithinBudget (IsWorkOf (form_text Opl) p query) most → GivesWithin most endpoint closes p query r
 given_within None endpoint closes p query r gives within = gives
 given_within (Some most) endpoint closes p query r gives within = inl (gives, within)
 
@@ -50,20 +50,20 @@ module _ (terms : Terms) (reply : Reply) (p : Publication) (query old new : List
   given_on : (r : Response) → GivesWithin terms.most reply.endpoint reply.closes p query r → GivesOn terms reply.endpoint reply.closes p query r
   given_on r gives = or_fails terms.may_fail reply.closes query r (GivesWithin terms.most reply.endpoint reply.closes p query r) gives
 
-  given_added : (endpoint : Endpoint) (r : Response) → reply.endpoint ≡ endpoint → GivesAt endpoint reply.closes p query r → IsWithin (IsWorkOf (form_text Opl) p query) terms.most
+  given_added : (endpoint : Endpoint) (r : Response) → reply.endpoint ≡ endpoint → GivesAt endpoint reply.closes p query r → IsWithinBudget (IsWorkOf (form_text Opl) p query) terms.most
       → new ≡ old ++ response_text r → AddsResponse (ByQueryOn terms reply p (Some query)) old new
   given_added endpoint r at gives within added =
       let meant = subst (λ (endpoint : Endpoint). GivesAt endpoint reply.closes p query r) (sym at) gives in
       (r, inr (given_on r (given_within terms.most reply.endpoint reply.closes p query r meant within)), added)
 
-  pub answer_added : (root answer : List ℕ) → reply.endpoint ≡ Answer → (root ≡ root_of p) × IsAnswer p query answer → IsWithin (IsWorkOf (form_text Opl) p query) terms.most
+  pub answer_added : (root answer : List ℕ) → reply.endpoint ≡ Answer → (root ≡ root_of p) × IsAnswer p query answer → IsWithinBudget (IsWorkOf (form_text Opl) p query) terms.most
       → new ≡ old ++ response_text (ok_response reply.closes root false answer) → AddsResponse (ByQueryOn terms reply p (Some query)) old new
   answer_added root answer at (under, is) within added =
       given_added Answer (ok_response reply.closes root false answer) at
       (answer, is, ap (λ (root : List ℕ). ok_response reply.closes root false answer) under) within added
 
   pub proved_added : (root answer proof : List ℕ) → reply.endpoint ≡ AnswerWithProof → (root ≡ root_of p) × IsProved p query answer proof
-      → IsWithin (IsWorkOf (form_text Opl) p query) terms.most
+      → IsWithinBudget (IsWorkOf (form_text Opl) p query) terms.most
       → new ≡ old ++ response_text (ok_response reply.closes root true (checked_body root answer proof)) → AddsResponse (ByQueryOn terms reply p (Some query)) old new
   proved_added root answer proof at (under, is) within added =
       given_added AnswerWithProof (ok_response reply.closes root true (checked_body root answer proof)) at

@@ -9,7 +9,7 @@ use Rattle.osm_model.specs.Bytes.{line_feed}
 use Rattle.osm_forms.specs.Forms.{form_text}
 use Rattle.osm_forms.specs.declared.form.Form.TheVariants.{Opl}
 use Rattle.osm_keys.specs.Publications.{Publication, root_of}
-use Rattle.osm_prove.specs.Budgets.{IsTooMuch, IsWithin, IsWorkOf}
+use Rattle.osm_prove.specs.Budgets.{IsTooMuch, IsWithinBudget, IsWorkOf}
 use Rattle.osm_prove.specs.Proved.{IsAnswer, IsProved}
 use Rattle.ql_syntax.specs.Queries.{HasFault, Reads}
 use Rattle.ql_syntax.specs.Refusals.{code_text}
@@ -102,7 +102,7 @@ TellsTooMuch most closes p query r =
 abbrev pub GivesWithin : Option ℕ → Endpoint → Bool → Publication → List ℕ → Response → Type 0
 GivesWithin None endpoint closes p query r = GivesAt endpoint closes p query r
 GivesWithin (Some most) endpoint closes p query r =
-    (GivesAt endpoint closes p query r × IsWithin (IsWorkOf (form_text Opl) p query) (Some most))
+    (GivesAt endpoint closes p query r × IsWithinBudget (IsWorkOf (form_text Opl) p query) (Some most))
     ⊎ TellsTooMuch (Some most) closes p query r
 
 -- the response says that the device of the nodes failed, to a query that reads

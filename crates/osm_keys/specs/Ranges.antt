@@ -3,7 +3,7 @@
 use Rattle.std.specs.List.{flat_map, range_with_len}
 use Rattle.std.specs.Prelude.{◌≡◌, ℕ, ◌+◌, ◌-◌, List, [], ◌∷◌, ◌++◌, ◌⊎◌, map, ℤ, ◌≤ℤ◌, ◌<ℤ◌, Option, Some, None, true, false, ⊤}
 use Rattle.osm_model.specs.Boxes.{ExactBox}
-use Rattle.osm_model.specs.Edges.{IsAbove, IsCeiling, IsFloor}
+use Rattle.osm_model.specs.Edges.{IsGreater, IsCeiling, IsFloor}
 use Rattle.osm_model.specs.Elements.{kind_byte}
 use Rattle.osm_model.specs.Places.{IsPlace}
 use Rattle.osm_model.specs.declared.kind.Kind.{Kind}
@@ -60,8 +60,8 @@ AreRows south north rows =
 -- 180th meridian goes from west to the last column, and from column 0 to east.
 abbrev pub AreColumns : ExactBox → ℤ → ℤ → List (ℕ × ℕ) → Type 0
 AreColumns b west east columns =
-    (IsAbove b.west.value b.east.value × (columns ≡ (column west, last_column) ∷ (0, column east) ∷ []))
-    ⊎ ((¬ IsAbove b.west.value b.east.value) × (((east <ℤ west) × (columns ≡ [])) ⊎ ((west ≤ℤ east) × (columns ≡ (column west, column east) ∷ []))))
+    (IsGreater b.west.value b.east.value × (columns ≡ (column west, last_column) ∷ (0, column east) ∷ []))
+    ⊎ ((¬ IsGreater b.west.value b.east.value) × (((east <ℤ west) × (columns ≡ [])) ⊎ ((west ≤ℤ east) × (columns ≡ (column west, column east) ∷ []))))
 
 -- the ranges of the cells that a box meets: row by row from the south, with the least units that aren't below its
 -- southern and western edges and the greatest that aren't above its northern and eastern ones. These make two

@@ -6,7 +6,7 @@ ghost use Rattle.std.specs.List.{AllByRecursion, Contains};
 ghost use Rattle.std.specs.Prelude.{◌≡◌, ◌↔◌, ◌⊎◌, ◌<◌, ◌≤◌, ℕ, FitsSigned, List, None, Option, Some, length, slice_get};
 ghost use Rattle.std.specs.declared.cmp.Ordering.TheVariants.{Less};
 ghost use Rattle.osm_model.specs.Boxes.{ExactBox, Holds};
-ghost use Rattle.osm_model.specs.Edges.{IsAbove};
+ghost use Rattle.osm_model.specs.Edges.{IsGreater};
 ghost use Rattle.osm_model.specs.Elements.{Element, kind_of, ref_cmp, reference};
 ghost use Rattle.osm_model.specs.Limits.{HasNoNul};
 ghost use Rattle.osm_model.specs.Tagged.{HasTag};
@@ -132,7 +132,7 @@ pub fn cell_law()
     ensures once { (p : Publication) → IsPublication p
         → (b : ExactBox) (ranges : List Range) (are : AreCellRanges b ranges)
         → (o : Element) → Contains p.objects o → (place : Place) → o.body ≡ bodies.Node place
-        → (¬ IsAbove b.west.value b.east.value) ⊎ (column are.east < column are.west)
+        → (¬ IsGreater b.west.value b.east.value) ⊎ (column are.east < column are.west)
         → (k j : ℕ) (x y : Range) → slice_get ranges k ≡ Some x → slice_get ranges j ≡ Some y
         → IsIn x (cell_key place o.id) → IsIn y (cell_key place o.id) → k ≡ j }
     // There are two ranges for each row of the earth at most.

@@ -9,7 +9,7 @@ use Rattle.std.specs.Ordering.{nat_cmp, is_ne}
 use Rattle.std.specs.Cmp.{ranks}
 use Rattle.std.specs.Str.Parse.{AllDigits, digits_value}
 use Rattle.osm_model.specs.Degrees.{Decimal, IsDecimal, IsFraction, decimals}
-use Rattle.osm_model.specs.Edges.{size, scale, IsAtLeast, IsAtMost, IsAbove}
+use Rattle.osm_model.specs.Edges.{size, scale, IsAtLeast, IsAtMost, IsGreater}
 use Rattle.osm_model.proofs.shared.Digits.{after_append}
 use Rattle.osm_model.proofs.Decimals.{power_some}
 use Rattle.osm_model.proofs.Around.{with_sign-mul}
@@ -52,7 +52,7 @@ module _ (d e : Decimal) (up : d.negative ≡ false) (down : e.negative ≡ true
   none_down : IsAtMost (pos 0) e → size e ≡ 0
   none_down h = let at_zero : pos (0 * scale e) ≤ℤ neg_ℤ (pos (size e * 10 ^ 7)) = rw (down, with_sign-mul true (size e) (10 ^ 7)) at h in omega (arith, ints)
 
-  pub not_above : IsAtLeast (pos 0) d → IsAtMost (pos 0) e → IsAbove d e → ⊥
+  pub not_above : IsAtLeast (pos 0) d → IsAtMost (pos 0) e → IsGreater d e → ⊥
   not_above h k above =
       let order : neg_ℤ (pos (size e * scale d)) <ℤ pos (size d * scale e) = rw (up, down, with_sign-mul true (size e) (scale d)) at above in
       let none_d = none_up h in
@@ -61,10 +61,10 @@ module _ (d e : Decimal) (up : d.negative ≡ false) (down : e.negative ≡ true
       let product_e : size e * scale d ≡ 0 = rw none_e (omega arith) in
       omega (arith, ints)
 
-  some_above : 0 < size d * scale e + size e * scale d → IsAbove d e
+  some_above : 0 < size d * scale e + size e * scale d → IsGreater d e
   some_above h = rw (up, down, with_sign-mul true (size e) (scale d)) (let order : neg_ℤ (pos (size e * scale d)) <ℤ pos (size d * scale e) = omega (arith, ints) in order)
 
-  pub above_up : (IsAtLeast (pos 0) d → ⊥) → IsAbove d e
+  pub above_up : (IsAtLeast (pos 0) d → ⊥) → IsGreater d e
   above_up nothing =
       let some : 0 < size d = elim (size d) as (λ n. size d ≡ n → 0 < n) [
         | zero ↦ λ none. absurd (nothing (rw (up, none) (let zeros : pos (0 * 10 ^ 7) ≤ℤ pos (0 * scale d) = omega (arith, ints) in zeros)))
@@ -73,7 +73,7 @@ module _ (d e : Decimal) (up : d.negative ≡ false) (down : e.negative ≡ true
       let scaled : 1 * 1 ≤ size d * scale e = mul-le-mul {m₁ = 1} some (power_some (length (decimals e.fraction))) in
       some_above (omega (arith, scaled))
 
-  pub above_down : (IsAtMost (pos 0) e → ⊥) → IsAbove d e
+  pub above_down : (IsAtMost (pos 0) e → ⊥) → IsGreater d e
   above_down nothing =
       let some : 0 < size e = elim (size e) as (λ n. size e ≡ n → 0 < n) [
         | zero ↦ λ none. absurd (nothing (rw (down, none) (let zeros : pos (0 * scale e) ≤ℤ pos (0 * 10 ^ 7) = omega (arith, ints) in zeros)))
@@ -83,10 +83,10 @@ module _ (d e : Decimal) (up : d.negative ≡ false) (down : e.negative ≡ true
       some_above (omega (arith, scaled))
 
   -- what two tests against 0 tell
-  pub apart_then : (a b r : Bool) → (IsTrue a ↔ IsAtLeast (pos 0) d) → (IsTrue b ↔ IsAtMost (pos 0) e) → a ≡ true → r ≡ b → IsTrue (not r) ↔ IsAbove d e
+  pub apart_then : (a b r : Bool) → (IsTrue a ↔ IsAtLeast (pos 0) d) → (IsTrue b ↔ IsAtMost (pos 0) e) → a ≡ true → r ≡ b → IsTrue (not r) ↔ IsGreater d e
   apart_then a b true from to so is = ((λ h. cc), (λ above. absurd (not_above (from.0 so) (to.0 (sym is)) above)))
   apart_then a b false from to so is = ((λ h. above_down (λ k. let test = to.1 k in cc)), (λ above. refl))
 
-  pub apart_else : (a r : Bool) → (IsTrue a ↔ IsAtLeast (pos 0) d) → a ≡ false → r ≡ false → IsTrue (not r) ↔ IsAbove d e
+  pub apart_else : (a r : Bool) → (IsTrue a ↔ IsAtLeast (pos 0) d) → a ≡ false → r ≡ false → IsTrue (not r) ↔ IsGreater d e
   apart_else a true from none is = cc
   apart_else a false from none is = ((λ h. above_up (λ k. let test = from.1 k in cc)), (λ above. refl))

@@ -11,7 +11,7 @@ use Rattle.std.specs.Str.Parse.{AllDigits, digits_value, digits_value_after}
 use Rattle.osm_model.specs.declared.axis.Axis.{Axis}
 use Rattle.osm_model.specs.declared.axis.Axis.TheVariants.{Lon, Lat}
 use Rattle.osm_model.specs.Degrees.{Decimal, IsDecimal, decimals, limit}
-use Rattle.osm_model.specs.Edges.{ExactEdge, IsEdge, IsWithin, size, scale}
+use Rattle.osm_model.specs.Edges.{ExactEdge, IsEdge, IsOnAxis, size, scale}
 use Rattle.osm_model.specs.internal.EdgeUnits.{IsAround, IsBetween, signed_floor, signed_ceiling}
 use Rattle.osm_model.proofs.shared.Digits.{after_append, over}
 use Rattle.osm_model.proofs.Decimals.{power_some}
@@ -109,7 +109,7 @@ edge_of axis negative whole digits fraction f c decimal same a fits =
 -- a decimal is out of range where the units above are
 pub out_of_range : (axis : Axis) (negative : Bool) (whole digits : List ℕ) (fraction : Option (List ℕ)) (f c : ℕ) → digits ≡ decimals fraction
     → (f ≤ 1800000000 → IsAround (digits_value 10 (whole ++ digits) * 10 ^ 7) (10 ^ length digits) f c) → (1800000000 < f → 1800000000 * 10 ^ length digits < digits_value 10 (whole ++ digits) * 10 ^ 7)
-    → limit axis < c → ¬ (IsWithin axis (record { negative = negative; whole = whole; fraction = fraction }))
+    → limit axis < c → ¬ (IsOnAxis axis (record { negative = negative; whole = whole; fraction = fraction }))
 out_of_range axis negative whole digits fraction f c same near over more within =
     let here : digits_value 10 (whole ++ digits) * 10 ^ 7 ≤ limit axis * 10 ^ length digits = rw (sym same) at within in
     let least = limits axis in

@@ -3,7 +3,7 @@
 -- one crosses the 180th meridian.
 use Rattle.std.specs.Prelude.{◌≡◌, ◌⊎◌, ℤ}
 use Rattle.osm_model.specs.Degrees.{Decimal}
-use Rattle.osm_model.specs.Edges.{ExactEdge, IsAtMost, IsAtLeast, IsAbove}
+use Rattle.osm_model.specs.Edges.{ExactEdge, IsAtMost, IsAtLeast, IsGreater}
 use Rattle.osm_model.specs.Places.{Place}
 use Rattle.osm_model.specs.declared.axis.Axis.TheVariants.{Lon, Lat}
 
@@ -20,11 +20,11 @@ pub record IsBox (b : ExactBox) : Type 0 where
   pub west : b.west.axis ≡ Lon
   pub north : b.north.axis ≡ Lat
   pub east : b.east.axis ≡ Lon
-  pub upright : ¬ (IsAbove b.south.value b.north.value)
+  pub upright : ¬ (IsGreater b.south.value b.north.value)
 
 -- a longitude from west to east, around the earth where west is above east
 abbrev pub Spans : Decimal → Decimal → ℤ → Type 0
-Spans west east lon = ((¬ (IsAbove west east)) × IsAtLeast lon west × IsAtMost lon east) ⊎ (IsAbove west east × (IsAtLeast lon west ⊎ IsAtMost lon east))
+Spans west east lon = ((¬ (IsGreater west east)) × IsAtLeast lon west × IsAtMost lon east) ⊎ (IsGreater west east × (IsAtLeast lon west ⊎ IsAtMost lon east))
 
 -- the box holds the place
 pub record Holds (b : ExactBox) (p : Place) : Type 0 where

@@ -35,12 +35,12 @@ abbrev pub IsCeiling : Decimal → ℤ → Type 0
 IsCeiling d ceiling = (u : ℤ) → (IsAtLeast u d ↔ (ceiling ≤ℤ u))
 
 -- the first decimal is greater than the second
-abbrev pub IsAbove : Decimal → Decimal → Type 0
-IsAbove d e = (numerator e *ℤ pos (scale d)) <ℤ (numerator d *ℤ pos (scale e))
+abbrev pub IsGreater : Decimal → Decimal → Type 0
+IsGreater d e = (numerator e *ℤ pos (scale d)) <ℤ (numerator d *ℤ pos (scale e))
 
 -- the decimal, which counts degrees, is no farther from 0 than the axis goes
-abbrev pub IsWithin : Axis → Decimal → Type 0
-IsWithin axis d = size d * 10 ^ 7 ≤ limit axis * scale d
+abbrev pub IsOnAxis : Axis → Decimal → Type 0
+IsOnAxis axis d = size d * 10 ^ 7 ≤ limit axis * scale d
 
 -- a decimal of an axis
 pub record ExactEdge : Type 0 where
@@ -50,13 +50,13 @@ pub record ExactEdge : Type 0 where
 -- what every edge is
 pub record IsEdge (e : ExactEdge) : Type 0 where
   pub decimal : IsDecimal e.value
-  pub within : IsWithin e.axis e.value
+  pub within : IsOnAxis e.axis e.value
 
 -- the first fault that holds of the text of an edge
 abbrev pub IsEdgeFault : List ℕ → Axis → ModelFault → Type 0
 IsEdgeFault text axis EmptyNumber = text ≡ []
 IsEdgeFault text axis NotDecimal = (text ≢ []) × ((d : Decimal) → Spells text d → ⊥)
-IsEdgeFault text axis OutOfRange = (d : Decimal) × Spells text d × (¬ (IsWithin axis d))
+IsEdgeFault text axis OutOfRange = (d : Decimal) × Spells text d × (¬ (IsOnAxis axis d))
 IsEdgeFault text axis TooManyDecimals = ⊥
 IsEdgeFault text axis SouthAboveNorth = ⊥
 IsEdgeFault text axis ObjectTwice = ⊥

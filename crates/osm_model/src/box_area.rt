@@ -1,7 +1,7 @@
 //! Bounding boxes.
 
 ghost use Rattle.std.specs.Prelude.{◌≡◌, ◌↔◌, IsTrue, IfOk, IfErr, Ok};
-ghost use Rattle.osm_model.specs.Edges.{IsAbove, IsAtLeast, IsAtMost};
+ghost use Rattle.osm_model.specs.Edges.{IsGreater, IsAtLeast, IsAtMost};
 ghost use Rattle.osm_model.specs.Boxes.{ExactBox, IsBox, Holds, Spans};
 
 use crate::axis::Axis;
@@ -25,14 +25,14 @@ pub struct BoxArea<'a> {
 
 impl<'a> Model for BoxArea<'a> {
     ghost use Rattle.std.specs.Prelude.{◌↔◌, IsTrue};
-    ghost use Rattle.osm_model.specs.Edges.{IsAbove};
+    ghost use Rattle.osm_model.specs.Edges.{IsGreater};
     ghost use Rattle.osm_model.specs.Boxes.{ExactBox, IsBox};
 
     ghost Value = { ExactBox };
 
     ghost view = { λ a. record { south = a.south; west = a.west; north = a.north; east = a.east } };
 
-    ghost invariant = { λ a. IsBox (record { south = a.south; west = a.west; north = a.north; east = a.east }) × (IsTrue a.wraps ↔ IsAbove a.west.value a.east.value) };
+    ghost invariant = { λ a. IsBox (record { south = a.south; west = a.west; north = a.north; east = a.east }) × (IsTrue a.wraps ↔ IsGreater a.west.value a.east.value) };
 }
 
 impl<'a> BoxArea<'a> {
@@ -54,7 +54,7 @@ impl<'a> BoxArea<'a> {
         // What is made has just these edges.
         ensures made { IfOk result (λ b. (b ≡ record { south = south.entry; west = west.entry; north = north.entry; east = east.entry }) × IsBox b) }
         // Where south is above north, and nowhere else, it is refused.
-        ensures refused { IfErr result (λ fault. (fault ≡ ModelFault.SouthAboveNorth) × IsAbove south.entry.value north.entry.value) }
+        ensures refused { IfErr result (λ fault. (fault ≡ ModelFault.SouthAboveNorth) × IsGreater south.entry.value north.entry.value) }
     {
         if south.is_above(&north) {
             return Err(ModelFault::SouthAboveNorth);
@@ -104,7 +104,7 @@ impl<'a> BoxArea<'a> {
     /// Whether the box crosses the 180th meridian: its western edge is above its eastern one, by their
     /// exact values.
     pub fn crosses_meridian(&self) -> bool
-        ensures { IsTrue result ↔ IsAbove self.now.west.value self.now.east.value }
+        ensures { IsTrue result ↔ IsGreater self.now.west.value self.now.east.value }
     {
         self.wraps
     }

@@ -10,7 +10,7 @@ ghost use Rattle.osm_model.specs.DecimalParts.{decimal_of};
 ghost use Rattle.osm_model.specs.Edges.{size, scale};
 
 use crate::decimal::Parts;
-use crate::degrees::{capped, digit};
+use crate::degrees::{digit, number_up_to_cap};
 use std::cmp::Ordering;
 
 /// How two decimals compare without their signs.
@@ -21,7 +21,7 @@ pub(crate) fn compare_sizes(first: Parts<'_>, second: Parts<'_>) -> Ordering
     requires few_second { digits_value 10 second.whole.now ≤ 10000000000 }
     ensures { result ≡ nat_cmp (size (decimal_of first.entry) * scale (decimal_of second.entry)) (size (decimal_of second.entry) * scale (decimal_of first.entry)) }
 {
-    let order = capped(0, first.whole).cmp(&capped(0, second.whole));
+    let order = number_up_to_cap(0, first.whole).cmp(&number_up_to_cap(0, second.whole));
     if order.is_ne() {
         return order;
     }

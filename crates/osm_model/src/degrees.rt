@@ -68,12 +68,12 @@ pub(crate) fn units_of(whole: &[u8], fraction: &[u8]) -> u64
     ensures value { result ≡ min (digits_value 10 (whole.now ++ fraction.now)) 10000000000 * 10 ^ (7 - length fraction.now) }
     ensures bound { result ≤ 10 ^ 17 }
 {
-    let digits = capped(capped(0, whole), fraction);
+    let digits = number_up_to_cap(number_up_to_cap(0, whole), fraction);
     digits * power_of_ten(7 - fraction.len())
 }
 
 /// The number that these digits make after those before them, up to a cap.
-pub(crate) fn capped(start: u64, digits: &[u8]) -> u64
+pub(crate) fn number_up_to_cap(start: u64, digits: &[u8]) -> u64
     requires digits { AllDigits 10 digits.now }
     requires start { start ≤ 10000000000 }
     ensures { result ≡ min (digits_value_after 10 start digits.now) 10000000000 }

@@ -4,7 +4,7 @@ ghost use Rattle.std.specs.Prelude.{◌≡◌, ◌≤◌, ◌<◌, ◌*◌, ◌^
 ghost use Rattle.std.specs.Str.Parse.{AllDigits, digits_value};
 ghost use Rattle.osm_model.specs.Degrees.{Decimal, Spells, IsDegrees, limit};
 ghost use Rattle.osm_model.specs.CanonicalDegrees.{degrees};
-ghost use Rattle.osm_model.specs.Edges.{IsEdge, IsEdgeFault, IsWithin, IsAtMost, IsAtLeast, IsAbove, IsFloor, IsCeiling};
+ghost use Rattle.osm_model.specs.Edges.{IsEdge, IsEdgeFault, IsOnAxis, IsAtMost, IsAtLeast, IsGreater, IsFloor, IsCeiling};
 ghost use Rattle.osm_model.specs.internal.EdgeUnits.{IsAround, signed_floor, signed_ceiling};
 
 use crate::axis::Axis;
@@ -54,7 +54,7 @@ impl<'a> Edge<'a> {
         // What is read is spelled so.
         ensures read { IfOk result (λ e. (e.axis ≡ axis) × Spells text.now e.value × IsEdge e) }
         // What is spelled so is read.
-        ensures only { (d : Decimal) → Spells text.now d → IsWithin axis d → result ≡ Ok (record { axis = axis; value = d }) }
+        ensures only { (d : Decimal) → Spells text.now d → IsOnAxis axis d → result ≡ Ok (record { axis = axis; value = d }) }
         // Which fault it is.
         ensures refused { IfErr result (λ fault. IsEdgeFault text.now axis fault) }
     {
@@ -104,7 +104,7 @@ impl<'a> Edge<'a> {
 
     /// Whether it is above another edge, by their exact values.
     pub(crate) fn is_above(&self, other: &Edge<'a>) -> bool
-        ensures { IsTrue result ↔ IsAbove self.now.value other.now.value }
+        ensures { IsTrue result ↔ IsGreater self.now.value other.now.value }
     {
         match (self.parts.negative, other.parts.negative) {
             (false, false) => compare_sizes(self.parts, other.parts).is_gt(),

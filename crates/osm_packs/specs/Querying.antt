@@ -14,7 +14,7 @@ use Rattle.ql_meaning.specs.Meanings.{Means_by}
 use Rattle.ql_eval.specs.Asks.{IsNeeded}
 use Rattle.ql_eval.specs.declared.fault.EvalFault.{EvalFault}
 use Rattle.ql_eval.specs.declared.fault.EvalFault.TheVariants as evaluations
-use Rattle.osm_prove.specs.Budgets.{IsTooMuch, IsWithin}
+use Rattle.osm_prove.specs.Budgets.{IsTooMuch, IsWithinBudget}
 use Rattle.osm_check.specs.Verdicts.{IsReadable}
 use Rattle.outside_shelf.specs.declared.refused.Refused.{Refused}
 use Rattle.outside_shelf.specs.declared.refused.Refused.TheVariants as reasons
@@ -56,8 +56,8 @@ HasBegun p form query old new = (text : List ℕ) × IsRight p form query text �
 -- there is an answer only where the work is within the budget, and the query is refused for the budget only where it is too
 -- much
 abbrev pub KeepsBudget : {A : Type 0} → (ℕ → Type 0) → Option ℕ → Result A NotAnswered → Type 0
-KeepsBudget IsWork most (Ok given) = IsWithin IsWork most
-KeepsBudget IsWork most (Err Device) = IsWithin IsWork most
+KeepsBudget IsWork most (Ok given) = IsWithinBudget IsWork most
+KeepsBudget IsWork most (Err Device) = IsWithinBudget IsWork most
 KeepsBudget IsWork most (Err Work) = IsTooMuch IsWork most
 KeepsBudget IsWork most (Err (Query fault)) = ⊤
 KeepsBudget IsWork most (Err (Pack fault)) = ⊤

@@ -8,13 +8,13 @@ use Rattle.ql_eval.specs.Work as evaluations
 use Rattle.ql_eval.specs.Work.{Passes, WorkOfQuery}
 use Rattle.ql_eval.specs.declared.fault.EvalFault.{EvalFault}
 use Rattle.ql_eval.specs.declared.fault.EvalFault.TheVariants as faults
-use Rattle.osm_prove.specs.Budgets.{IsWithin, IsWorkOf, KeepsBudget}
+use Rattle.osm_prove.specs.Budgets.{IsWithinBudget, IsWorkOf, KeepsBudget}
 use Rattle.osm_prove.specs.declared.prove_fault.ProveFault.{ProveFault}
 use Rattle.osm_prove.specs.declared.prove_fault.ProveFault.TheVariants.{Memory, Query, Work}
 use Rattle.osm_prove.proofs.shared.QueryWorks.{query_too_much}
 
 -- an evaluation that ended well kept it
-pub within : (IsWork : ℕ → Type 0) (most : Option ℕ) (work : ℕ) → ((n : ℕ) × IsWork n × (¬ Passes most n) × (work ≡ min n (2 ^ 64 - 1))) → IsWithin IsWork most
+pub within : (IsWork : ℕ → Type 0) (most : Option ℕ) (work : ℕ) → ((n : ℕ) × IsWork n × (¬ Passes most n) × (work ≡ min n (2 ^ 64 - 1))) → IsWithinBudget IsWork most
 within IsWork most work kept = (kept.0, kept.1, kept.2)
 
 -- so did one that was refused

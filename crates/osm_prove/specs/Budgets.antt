@@ -16,8 +16,8 @@ pub record IsWorkOf (tell : Telling) (p : Publication) (query : List ℕ) (n : �
   pub work : WorkOfQuery tell p statements n
 
 -- a work is one of these, and within the budget
-abbrev pub IsWithin : (ℕ → Type 0) → Option ℕ → Type 0
-IsWithin IsWork most = (n : ℕ) × IsWork n × (¬ Passes most n)
+abbrev pub IsWithinBudget : (ℕ → Type 0) → Option ℕ → Type 0
+IsWithinBudget IsWork most = (n : ℕ) × IsWork n × (¬ Passes most n)
 
 -- each work of these is more than the budget has
 abbrev pub IsTooMuch : (ℕ → Type 0) → Option ℕ → Type 0
@@ -25,7 +25,7 @@ IsTooMuch IsWork most = (n : ℕ) → IsWork n → Passes most n
 
 -- something is given only where the work is within the budget, and refused for the budget only where it is too much
 abbrev pub KeepsBudget : {A : Type 0} → (ℕ → Type 0) → Option ℕ → Result A ProveFault → Type 0
-KeepsBudget IsWork most (Ok given) = IsWithin IsWork most
+KeepsBudget IsWork most (Ok given) = IsWithinBudget IsWork most
 KeepsBudget IsWork most (Err Work) = IsTooMuch IsWork most
 KeepsBudget IsWork most (Err (Query fault)) = ⊤
 KeepsBudget IsWork most (Err Memory) = ⊤

@@ -13,12 +13,12 @@ abbrev pub front : List ℕ
 front = 79 ∷ 83 ∷ 77 ∷ 80 ∷ 1 ∷ []
 
 -- a node after its length in four bytes, with the greatest first
-abbrev pub marked : List ℕ → List ℕ
-marked node = to_be_bytes w32 (length node) ++ node
+abbrev pub with_length : List ℕ → List ℕ
+with_length node = to_be_bytes w32 (length node) ++ node
 
 -- the proof that lists these nodes: the front, their number in four bytes, and each of them after its length
 unfoldable pub listing : List (List ℕ) → List ℕ
-listing nodes = front ++ (to_be_bytes w32 (length nodes) ++ flat_map marked nodes)
+listing nodes = front ++ (to_be_bytes w32 (length nodes) ++ flat_map with_length nodes)
 
 -- the number of the nodes and each of their lengths fit four bytes
 pub record FitsProof (nodes : List (List ℕ)) : Type 0 where

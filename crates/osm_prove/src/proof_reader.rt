@@ -3,7 +3,7 @@
 ghost use Rattle.std.specs.Int.{to_be_bytes, w32};
 ghost use Rattle.std.specs.Prelude.{◌≡◌, ◌≢◌, ◌↔◌, ◌++◌, ◌^◌, ◌<◌, ℕ, Err, IfOk, IfSome, IsNone, IsTrue, List, length};
 ghost use Rattle.tree_node.specs.Parts.{HaveRisingDigests};
-ghost use Rattle.osm_prove.specs.Proofs.{AreRising, IsProof, Lists, front, marked, nodes_of};
+ghost use Rattle.osm_prove.specs.Proofs.{AreRising, IsProof, Lists, front, with_length, nodes_of};
 
 use crate::proof_fault::ProofFault;
 use crate::proof_writer::FRONT;
@@ -72,9 +72,9 @@ fn read_head(bytes: &[u8]) -> Option<(u32, &[u8])>
 /// The node after its length at the front of these bytes, and what follows it.
 fn read_node(bytes: &[u8]) -> Option<(&[u8], &[u8])>
     ensures short { IfSome result (λ found. length found.0.now < 2 ^ 32) }
-    ensures some { IfSome result (λ found. bytes.now ≡ marked found.0.now ++ found.1.now) }
+    ensures some { IfSome result (λ found. bytes.now ≡ with_length found.0.now ++ found.1.now) }
     ensures none { IsNone result → (node rest : List ℕ) → length node < 2 ^ 32
-        → bytes.now ≢ marked node ++ rest }
+        → bytes.now ≢ with_length node ++ rest }
 {
     let (len, rest) = read_number(bytes)?;
     rest.split_at_checked(len as usize)

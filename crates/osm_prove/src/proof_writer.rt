@@ -2,7 +2,7 @@
 
 ghost use Rattle.std.specs.Int.{to_be_bytes, w32};
 ghost use Rattle.std.specs.Prelude.{◌≡◌, ◌^◌, ◌<◌, ◌++◌, IfOk, OnOk, length};
-ghost use Rattle.osm_prove.specs.Proofs.{FitsProof, listing, marked, nodes_of};
+ghost use Rattle.osm_prove.specs.Proofs.{FitsProof, listing, with_length, nodes_of};
 
 use std::alloc::{AllocError, Global};
 use tree_node::Part;
@@ -32,7 +32,7 @@ pub fn write_proof(alloc: Global, parts: &[Part<'_>]) -> Result<Vec<u8>, AllocEr
 /// Appends a node after its length; out of memory it leaves what it wrote.
 fn append_node(node: &[u8], out: &mut Vec<u8>) -> Result<(), AllocError>
     requires { length node.now < 2 ^ 32 }
-    ensures { OnOk result (out.new.items ≡ out.old.items ++ marked node.now) }
+    ensures { OnOk result (out.new.items ≡ out.old.items ++ with_length node.now) }
 {
     out.extend_from_slice(&(node.len() as u32).to_be_bytes())?;
     out.extend_from_slice(node)

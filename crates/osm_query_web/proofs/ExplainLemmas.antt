@@ -11,7 +11,7 @@ use Rattle.node_pack.specs.declared.fault.PackFault.{PackFault}
 use Rattle.node_pack.specs.declared.fault.PackFault.TheVariants as packs
 use Rattle.outside_shelf.specs.declared.refused.Refused.TheVariants as reasons
 use Rattle.osm_query_web.specs.declared.stated.Stated.{Stated}
-use Rattle.osm_query_web.specs.internal.Outcomes.{ExplainsBy}
+use Rattle.osm_query_web.specs.internal.CallResults.{ExplainsBy}
 
 faulty_or_device : (P Q : List ℕ → Type 0) → ((file : List ℕ) → Q file → P file) → (fault : PackFault) → (fault ≡ packs.Device) ⊎ HasFaultyHeader P fault → (fault ≡ packs.Device) ⊎ HasFaultyHeader Q fault
 faulty_or_device P Q of fault (inl device) = inl device

@@ -12,12 +12,12 @@ use Rattle.osm_packs.specs.declared.not_answered.NotAnswered.TheVariants as faul
 use Rattle.osm_query_web.proofs.ExplainLemmas.{its_fault_by, unread}
 use Rattle.osm_query_web.specs.Answers.{IsAnswerOf, IsTableOfWanted, form_number}
 use Rattle.osm_query_web.specs.ToldFaults.{told_of}
-use Rattle.osm_query_web.specs.declared.outcome.Outcome.{Outcome}
-use Rattle.osm_query_web.specs.declared.outcome.Outcome.TheVariants.{Document, Missing, NoMemory, Refused}
+use Rattle.osm_query_web.specs.declared.call_result.CallResult.{CallResult}
+use Rattle.osm_query_web.specs.declared.call_result.CallResult.TheVariants.{Document, Missing, NoMemory, Refused}
 use Rattle.osm_query_web.specs.declared.span.Span.{Span}
 use Rattle.osm_query_web.specs.declared.stated.Stated.{Stated}
 use Rattle.osm_query_web.specs.declared.told.TheConstants.{MORE, NO, NO_MEMORY, TOO_SHORT, YES}
-use Rattle.osm_query_web.specs.internal.Outcomes.{Handed, IfDocument, IfMissing, IfRefused, IsExplained, IsHanded, IsHandedOver}
+use Rattle.osm_query_web.specs.internal.CallResults.{Handed, IfDocument, IfMissing, IfRefused, IsExplained, IsHanded, IsHandedOver}
 
 -- each form has a number of its own
 pub same_form : (form other : Form) → form_number form ≡ form_number other → form ≡ other
@@ -42,7 +42,7 @@ module _ (found : Handed) where
   ]
 
   -- with a yes, a document is at the front of the room,
-  pub headline : (P : List ℕ → Type 0) (outcome : Outcome) → IsHanded outcome found → found.status ≡ YES → IfDocument outcome P → P (take found.len found.after)
+  pub headline : (P : List ℕ → Type 0) (outcome : CallResult) → IsHanded outcome found → found.status ≡ YES → IfDocument outcome P → P (take found.len found.after)
   headline P (Document document) over said has = elim (one_status YES document.items over) [
     | inl put ↦ subst P (sym put.1) has
     | inr short ↦ absurd (cc)
@@ -55,7 +55,7 @@ module _ (found : Handed) where
   headline P NoMemory alone said has = let is = alone.status_is in absurd (cc)
 
   -- with more, a table,
-  pub more : (P : List ℕ → Type 0) (outcome : Outcome) → IsHanded outcome found → found.status ≡ MORE → IfMissing outcome P → P (take found.len found.after)
+  pub more : (P : List ℕ → Type 0) (outcome : CallResult) → IsHanded outcome found → found.status ≡ MORE → IfMissing outcome P → P (take found.len found.after)
   more P (Document document) over said has = elim (one_status YES document.items over) [
     | inl put ↦ absurd (let is = put.0 in cc)
     | inr short ↦ absurd (cc)
@@ -68,7 +68,7 @@ module _ (found : Handed) where
   more P NoMemory alone said has = let is = alone.status_is in absurd (cc)
 
   -- and with a no, a fault is told
-  pub refused : (P : NotAnswered → Type 0) (outcome : Outcome) → IsHanded outcome found → found.status ≡ NO → IfRefused outcome P → (fault : NotAnswered) × (found.told ≡ told_of fault) × P fault
+  pub refused : (P : NotAnswered → Type 0) (outcome : CallResult) → IsHanded outcome found → found.status ≡ NO → IfRefused outcome P → (fault : NotAnswered) × (found.told ≡ told_of fault) × P fault
   refused P (Document document) over said has = elim (one_status YES document.items over) [
     | inl put ↦ absurd (let is = put.0 in cc)
     | inr short ↦ absurd (cc)
@@ -91,7 +91,7 @@ module _ (found : Handed) where
         (omega (arith, over.len_is), subst (λ (n : ℕ). drop found.len found.after ≡ drop n found.before) (sym over.len_is) dropped))
   ]
 
-  pub handed_over : (outcome : Outcome) → IsHanded outcome found → (found.status ≡ YES) ⊎ (found.status ≡ MORE) → (found.len ≤ length found.before) × (drop found.len found.after ≡ drop found.len found.before)
+  pub handed_over : (outcome : CallResult) → IsHanded outcome found → (found.status ≡ YES) ⊎ (found.status ≡ MORE) → (found.len ≤ length found.before) × (drop found.len found.after ≡ drop found.len found.before)
   handed_over (Document document) over (inl said) = rest_stays YES document.items over (λ e. cc)
   handed_over (Document document) over (inr said) = rest_stays YES document.items over (λ e. cc)
   handed_over (Missing table) over (inl said) = rest_stays MORE table.items over (λ e. cc)
@@ -102,7 +102,7 @@ module _ (found : Handed) where
   handed_over NoMemory alone (inr said) = let is = alone.status_is in absurd (cc)
 
   -- with another status, nothing is
-  pub nothing : (outcome : Outcome) → IsHanded outcome found → found.status ≢ YES → found.status ≢ MORE → found.status ≢ TOO_SHORT → (found.len ≡ 0) × (found.after ≡ found.before)
+  pub nothing : (outcome : CallResult) → IsHanded outcome found → found.status ≢ YES → found.status ≢ MORE → found.status ≢ TOO_SHORT → (found.len ≡ 0) × (found.after ≡ found.before)
   nothing (Document document) over not_yes not_more not_short = elim (one_status YES document.items over) [
     | inl put ↦ absurd (not_yes put.0)
     | inr said ↦ absurd (not_short said)
@@ -115,7 +115,7 @@ module _ (found : Handed) where
   nothing NoMemory alone not_yes not_more not_short = (alone.len_is, alone.room_is)
 
   -- where the room is too short, something was to be handed over
-  pub needed : (P Q : List ℕ → Type 0) (outcome : Outcome) → IsHanded outcome found → found.status ≡ TOO_SHORT → IfDocument outcome P → IfMissing outcome Q → (due : List ℕ) × (found.len ≡ length due) × (P due ⊎ Q due)
+  pub needed : (P Q : List ℕ → Type 0) (outcome : CallResult) → IsHanded outcome found → found.status ≡ TOO_SHORT → IfDocument outcome P → IfMissing outcome Q → (due : List ℕ) × (found.len ≡ length due) × (P due ⊎ Q due)
   needed P Q (Document document) over said has lists = (document.items, over.len_is, inl has)
   needed P Q (Missing table) over said has lists = (table.items, over.len_is, inr lists)
   needed P Q (Refused fault) alone said has lists = let is = alone.status_is in absurd (cc)
@@ -127,7 +127,7 @@ module _ (found : Handed) where
     no_answer document (inl right) = unread query fault has (right.is_text.statements, right.is_text.reads)
     no_answer document (inr clash) = unread query fault has (clash.statements, clash.reads)
 
-    pub unreadable : (outcome : Outcome) → IsHanded outcome found → IfDocument outcome (IsAnswerOf p form query) → IfMissing outcome (IsTableOfWanted size spans query) → IfRefused outcome (IsExplained stated R query root)
+    pub unreadable : (outcome : CallResult) → IsHanded outcome found → IfDocument outcome (IsAnswerOf p form query) → IfMissing outcome (IsTableOfWanted size spans query) → IfRefused outcome (IsExplained stated R query root)
         → (found.status ≡ NO_MEMORY) ⊎ ((found.status ≡ NO) × (found.told ≡ told_of (faults.Query fault)))
     unreadable (Document document) over right lists explained = absurd (no_answer document.items right)
     unreadable (Missing table) over right lists explained = absurd (unread query fault has lists.readable)

@@ -3,5 +3,5 @@ pub mod TableLemmas
 pub mod PieceLemmas
 pub mod WantedLemmas
 pub mod ExplainLemmas
-pub mod OutcomeLemmas
+pub mod CallResultLemmas
 pub mod HandedLemmas

@@ -8,7 +8,7 @@ use Rattle.std.specs.List.Sorted.{IsNonDecreasingBy, IsPartitionPoint, IsPartiti
 use Rattle.std.specs.Option.{IfNone, IfSome}
 use Rattle.osm_keys.proofs.shared.Members.{first_or_in_rest}
 use Rattle.osm_query_web.specs.Pieces.{AreApart, IsMissing, IsPartsOf, IsWanted, total_len}
-use Rattle.osm_query_web.specs.Spans.{Has, IsWithin, in_span}
+use Rattle.osm_query_web.specs.Spans.{Has, FitsSize, in_span}
 use Rattle.osm_query_web.specs.declared.piece.Piece.{Piece}
 use Rattle.osm_query_web.specs.declared.pieces.Pieces.{Pieces}
 use Rattle.osm_query_web.specs.declared.span.Span.{Span}
@@ -124,7 +124,7 @@ some_of spans pieces wanted piece are among has none =
     of_each (λ (p : Piece). ¬ Has p.span wanted) pieces.pieces.items piece all among has
 
 -- so a span is wanted just where none has it
-pub wanted_if : (spans : List Span) (pieces : Pieces) (span : Span) (holder : Option Piece) (none : Bool) → AreOf spans pieces → 0 < span.len → IsWithin pieces.size span → is_some holder ≡ not none
+pub wanted_if : (spans : List Span) (pieces : Pieces) (span : Span) (holder : Option Piece) (none : Bool) → AreOf spans pieces → 0 < span.len → FitsSize pieces.size span → is_some holder ≡ not none
     → IfSome holder (λ piece. Contains pieces.pieces.items piece × Has piece.span span) → IfNone holder (IsMissing spans span)
     → IsTrue none ↔ IsWanted pieces.size spans span
 wanted_if spans pieces span (Some piece) false are some within is found missing = ((λ yes. absurd (false≢true yes)), (λ wanted. absurd (some_of spans pieces span piece are found.0 found.1 wanted.missing)))

@@ -2,7 +2,7 @@
 use Rattle.std.proofs.Common.{◌≡◌, ◌∙◌, append-nil, ℕ, ◌+◌, ◌-◌, ◌%◌, ◌^◌, ◌<◌, ◌≤◌, ◌↔◌, List, [], ◌∷◌, ◌++◌, append_assoc, ap, arith, drop, length, length-drop, min, subst, sym}
 use Rattle.osm_query_web.proofs.SpanLemmas.{spans_in-long, spans_in-short}
 use Rattle.osm_query_web.specs.Pieces.{AreApart, IsTable, total_len}
-use Rattle.osm_query_web.specs.Spans.{IsWithin, first_span, spans_in}
+use Rattle.osm_query_web.specs.Spans.{FitsSize, first_span, spans_in}
 use Rattle.osm_query_web.specs.declared.piece.Piece.{Piece}
 use Rattle.osm_query_web.specs.declared.span.Span.{Span}
 use Rattle.osm_query_web.specs.internal.Reading.{pieces_from}
@@ -33,12 +33,12 @@ module _ (size len least taken : ℕ) (left rest : List ℕ) (span : Span) (long
   len_is = ap length rest_is ∙ length-drop 16 left
 
   -- the first one may stand where it does,
-  pub first_stands : IsRest size len least taken left → (least ≤ span.start) × (0 < span.len) × IsWithin size span
+  pub first_stands : IsRest size len least taken left → (least ≤ span.start) × (0 < span.len) × FitsSize size span
   first_stands are =
       let apart = subst (AreApart size least) spans_are are.apart in (apart.0, apart.1, apart.2)
 
   -- and if it may, what is left is a table just if what is left after it is one
-  pub one_less : size < 2 ^ 64 → (least ≤ span.start) × (0 < span.len) × IsWithin size span
+  pub one_less : size < 2 ^ 64 → (least ≤ span.start) × (0 < span.len) × FitsSize size span
       → IsRest size len (min (span.start + span.len + 1) most) (taken + span.len) rest ↔ IsRest size len least taken left
   one_less short stands = (
     (λ after. record {

@@ -3,7 +3,7 @@
 use Rattle.std.specs.List.{AllByRecursion, flat_map}
 use Rattle.std.specs.List.Sorted.{IsStrictlySortedBy}
 use Rattle.std.specs.Prelude.{◌≡◌, ◌≢◌, ◌≤◌, ◌<◌, ◌+◌, ◌%◌, ℕ, List, [], ◌∷◌, ⊤, length}
-use Rattle.osm_query_web.specs.Spans.{Has, IsWithin, in_span, span_cmp, spans_in}
+use Rattle.osm_query_web.specs.Spans.{Has, FitsSize, in_span, span_cmp, spans_in}
 use Rattle.osm_query_web.specs.declared.span.Span.{Span}
 
 -- ---- pieces
@@ -12,7 +12,7 @@ use Rattle.osm_query_web.specs.declared.span.Span.{Span}
 abbrev pub AreApart : (size least : ℕ) → List Span → Type 0
 AreApart size least [] = ⊤
 AreApart size least (span ∷ spans) =
-    (least ≤ span.start) × (0 < span.len) × IsWithin size span × AreApart size (span.start + span.len + 1) spans
+    (least ≤ span.start) × (0 < span.len) × FitsSize size span × AreApart size (span.start + span.len + 1) spans
 
 -- how many bytes they have together
 abbrev pub total_len : List Span → ℕ
@@ -39,7 +39,7 @@ IsMissing spans span = AllByRecursion (λ (piece : Span). ¬ Has piece span) spa
 -- A part of a pack that is to be fetched: it has some bytes and ends within the pack, and no single piece has all of it.
 pub record IsWanted (size : ℕ) (spans : List Span) (wanted : Span) : Type 0 where
   pub some : 0 < wanted.len
-  pub within : IsWithin size wanted
+  pub within : FitsSize size wanted
   pub missing : IsMissing spans wanted
 
 -- Such parts, one or more, in order, each once.

@@ -10,8 +10,8 @@ use Rattle.osm_query_web.specs.declared.span.Span.{Span}
 -- ---- spans
 
 -- a pack of so many bytes has all of it
-abbrev pub IsWithin : ℕ → Span → Type 0
-IsWithin size span = span.start + span.len ≤ size
+abbrev pub FitsSize : ℕ → Span → Type 0
+FitsSize size span = span.start + span.len ≤ size
 
 -- it has all of another one
 abbrev pub Has : Span → Span → Type 0

@@ -8,11 +8,11 @@ ghost use Rattle.osm_keys.specs.declared.manifest.Manifest.{Manifest};
 ghost use Rattle.osm_packs.specs.Querying.{HasAnswered};
 ghost use Rattle.osm_query_web.specs.Answers.{IsAnswerOf, IsTableOfWanted};
 ghost use Rattle.osm_query_web.specs.declared.span.Span.{Span};
-ghost use Rattle.osm_query_web.specs.internal.Outcomes.{ComesOf, ExplainsBy, IfDocument, IfMissing, IfRefused, IsAfterRead, IsExplained, ListsWanted};
+ghost use Rattle.osm_query_web.specs.internal.CallResults.{ComesOf, ExplainsBy, IfDocument, IfMissing, IfRefused, IsAfterRead, IsExplained, ListsWanted};
 ghost use Rattle.osm_query_web.specs.internal.Reading.{AreOf, ArePiecesOf};
 
+use crate::call_result::CallResult;
 use crate::missing::{table_of, wanted_of};
-use crate::outcome::Outcome;
 use crate::pieces::Pieces;
 use crate::reader::PieceReader;
 use crate::span::Span;
@@ -36,7 +36,7 @@ pub(crate) fn find_answer(
     at_most: u64,
     stated: Option<Stated>,
     pieces: &Pieces<'_>,
-) -> Outcome
+) -> CallResult
     ensures right { (spans : List Span) (p : Publication) → AreOf spans pieces.now
         → IsPublication p → root.now.0 ≡ root_of p
         → IfDocument result (IsAnswerOf p form query.now) }
@@ -68,8 +68,8 @@ pub(crate) fn find_answer(
         reader,
         &mut document,
     ) {
-        Ok(()) => Outcome::Document(document),
-        Err(fault) => outcome_of(alloc, fault, pieces, missed.into_inner().as_slice()),
+        Ok(()) => CallResult::Document(document),
+        Err(fault) => call_result_of(alloc, fault, pieces, missed.into_inner().as_slice()),
     }
 }
 
@@ -103,28 +103,33 @@ fn read_answer(
 }
 
 /// What comes of a fault, where these spans were noted.
-fn outcome_of(alloc: Global, fault: NotAnswered, pieces: &Pieces<'_>, noted: &[Span]) -> Outcome
+fn call_result_of(
+    alloc: Global,
+    fault: NotAnswered,
+    pieces: &Pieces<'_>,
+    noted: &[Span],
+) -> CallResult
     ensures { (spans : List Span) → AreOf spans pieces.now
         → ComesOf pieces.now.size spans fault result }
 {
     match fault {
-        NotAnswered::Memory | NotAnswered::Device => Outcome::NoMemory,
+        NotAnswered::Memory | NotAnswered::Device => CallResult::NoMemory,
         NotAnswered::Pack(PackFault::Device) | NotAnswered::Node(Refused::Device) => after_read(
             alloc, fault, pieces, noted,
         ),
-        _ => Outcome::Refused(fault),
+        _ => CallResult::Refused(fault),
     }
 }
 
 /// What comes of a read that failed.
-fn after_read(alloc: Global, fault: NotAnswered, pieces: &Pieces<'_>, noted: &[Span]) -> Outcome
+fn after_read(alloc: Global, fault: NotAnswered, pieces: &Pieces<'_>, noted: &[Span]) -> CallResult
     ensures { (spans : List Span) → AreOf spans pieces.now
         → IsAfterRead pieces.now.size spans fault result }
 {
     match list_missing(alloc, pieces, noted) {
-        Ok(Some(table)) => Outcome::Missing(table),
-        Ok(None) => Outcome::Refused(fault),
-        Err(_) => Outcome::NoMemory,
+        Ok(Some(table)) => CallResult::Missing(table),
+        Ok(None) => CallResult::Refused(fault),
+        Err(_) => CallResult::NoMemory,
     }
 }
 

@@ -13,7 +13,7 @@ ghost use Rattle.osm_query_web.specs.Answers.{IsAnswerOf, IsTableOfWanted, form_
 ghost use Rattle.osm_query_web.specs.Pieces.{IsTable};
 ghost use Rattle.osm_query_web.specs.Spans.{spans_in};
 ghost use Rattle.osm_query_web.specs.ToldFaults.{nothing, told_of};
-ghost use Rattle.osm_query_web.specs.internal.Outcomes.{IsReasonBy};
+ghost use Rattle.osm_query_web.specs.internal.CallResults.{IsReasonBy};
 
 use crate::answer::find_answer;
 use crate::handing::{hand_over, tell};

@@ -2,20 +2,25 @@
 
 ghost use Rattle.std.specs.Prelude.{◌≡◌};
 ghost use Rattle.osm_query_web.specs.ToldFaults.{nothing};
-ghost use Rattle.osm_query_web.specs.internal.Outcomes.{IsHanded, IsHandedOver, handed};
+ghost use Rattle.osm_query_web.specs.internal.CallResults.{IsHanded, IsHandedOver, handed};
 
-use crate::outcome::Outcome;
+use crate::call_result::CallResult;
 use crate::told::{MORE, NO, NO_MEMORY, TOO_SHORT, Told, YES};
 
 /// Tells an outcome in numbers, and hands over what there is to hand over. The status.
-pub(crate) fn hand_over(outcome: &Outcome, room: &mut [u8], told: &mut Told, len: &mut u64) -> u32
+pub(crate) fn hand_over(
+    outcome: &CallResult,
+    room: &mut [u8],
+    told: &mut Told,
+    len: &mut u64,
+) -> u32
     ensures { IsHanded outcome.now (handed result told.new len.new room.old room.new) }
 {
     match outcome {
-        Outcome::Document(document) => put(YES, document, room, told, len),
-        Outcome::Missing(table) => put(MORE, table, room, told, len),
-        Outcome::Refused(fault) => tell(NO, Told::of(*fault), told, len),
-        Outcome::NoMemory => tell(NO_MEMORY, Told::nothing(), told, len),
+        CallResult::Document(document) => put(YES, document, room, told, len),
+        CallResult::Missing(table) => put(MORE, table, room, told, len),
+        CallResult::Refused(fault) => tell(NO, Told::of(*fault), told, len),
+        CallResult::NoMemory => tell(NO_MEMORY, Told::nothing(), told, len),
     }
 }
 

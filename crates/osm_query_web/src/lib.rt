@@ -8,10 +8,10 @@
 
 mod answer;
 mod call;
+mod call_result;
 mod exports;
 mod handing;
 mod missing;
-mod outcome;
 mod piece;
 mod pieces;
 mod reader;

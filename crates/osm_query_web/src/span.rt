@@ -1,7 +1,7 @@
 //! Parts of a pack.
 
 ghost use Rattle.std.specs.Prelude.{◌≡◌, ◌++◌, ◌<◌, ◌≤◌, ◌↔◌, IsTrue, MatchOption, OnOk, drop, length};
-ghost use Rattle.osm_query_web.specs.Spans.{Has, IsWithin, first_span, span_bytes};
+ghost use Rattle.osm_query_web.specs.Spans.{Has, FitsSize, first_span, span_bytes};
 
 use std::alloc::AllocError;
 
@@ -39,7 +39,7 @@ impl Span {
 
     /// Whether a pack of so many bytes has all of it.
     pub(crate) fn is_within(self, size: u64) -> bool
-        ensures { IsTrue result ↔ IsWithin size self }
+        ensures { IsTrue result ↔ FitsSize size self }
     {
         self.start <= size && self.len <= size - self.start
     }

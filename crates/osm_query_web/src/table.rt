@@ -2,7 +2,7 @@
 
 ghost use Rattle.std.specs.Prelude.{◌≡◌, ◌<◌, ◌≤◌, ◌^◌, ◌↔◌, IfOk, IsTrue};
 ghost use Rattle.osm_query_web.specs.Pieces.{IsTable, total_len};
-ghost use Rattle.osm_query_web.specs.Spans.{IsWithin, spans_in};
+ghost use Rattle.osm_query_web.specs.Spans.{FitsSize, spans_in};
 ghost use Rattle.osm_query_web.specs.internal.Reading.{pieces_from};
 
 use crate::piece::Piece;
@@ -29,7 +29,7 @@ pub(crate) fn is_table(size: u64, len: u64, table: &[u8]) -> bool
 
 /// Whether a piece may stand there: it doesn't begin before `least`, has some bytes and is within the pack.
 fn may_stand(span: Span, least: u64, size: u64) -> bool
-    ensures { IsTrue result ↔ ((least ≤ span.start) × (0 < span.len) × IsWithin size span) }
+    ensures { IsTrue result ↔ ((least ≤ span.start) × (0 < span.len) × FitsSize size span) }
 {
     least <= span.start && span.len > 0 && span.is_within(size)
 }

@@ -13,7 +13,7 @@ ghost use Rattle.ql_meaning.specs.Meanings.{Means};
 ghost use Rattle.ql_eval.specs.Asks.{IsNeeded};
 ghost use Rattle.ql_eval.specs.Faults.{cause_of_evaluation};
 ghost use Rattle.ql_eval.specs.Work.{IsNodeOf, WorkOfQuery};
-ghost use Rattle.osm_prove.specs.Budgets.{IsTooMuch, IsWithin};
+ghost use Rattle.osm_prove.specs.Budgets.{IsTooMuch, IsWithinBudget};
 ghost use Rattle.outside_proof.specs.Faults.{fault_told, source_told};
 
 use crate::fault::OutsideFault;
@@ -48,7 +48,7 @@ pub(crate) fn evaluate_over<'a, S: Shelf<'a>>(
     ensures limited { most ≡ None → result ≢ Err EvalFault.Work }
     ensures within { (p : Publication) → IsPublication p → root.now.0 ≡ root_of p
         → ¬ Clash (IsNodeOf p) (λ _. ⊤)
-        → OnOk result (IsWithin (WorkOfQuery (form_text Opl) p (statements_of query.now)) most) }
+        → OnOk result (IsWithinBudget (WorkOfQuery (form_text Opl) p (statements_of query.now)) most) }
     ensures too_much { (p : Publication) → IsPublication p → root.now.0 ≡ root_of p
         → ¬ Clash (IsNodeOf p) (λ _. ⊤)
         → result ≡ Err EvalFault.Work

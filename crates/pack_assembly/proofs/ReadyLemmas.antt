@@ -24,7 +24,7 @@ use Rattle.pack_assembly.specs.declared.layout.PlacedRow.{PlacedRow}
 use Rattle.pack_assembly.specs.declared.row.Row.{Row}
 use Rattle.pack_assembly.specs.internal.Front.{front_bytes, header_with}
 use Rattle.pack_assembly.specs.internal.Order.{all_kepts, digests_of, kepts_in, lens, manifest_kept, nodes_in, rows_in}
-use Rattle.pack_assembly.specs.internal.Placing.{ArePlaced, AreShort, HasRowAt, IsAbove, IsAmong, IsOfLevel, IsReady, placed_from, rest_of, row_bytes, rows_bytes, tops_table}
+use Rattle.pack_assembly.specs.internal.Placing.{ArePlaced, AreShort, HasRowAt, AreParentsOf, IsAmong, IsOfLevel, IsReady, placed_from, rest_of, row_bytes, rows_bytes, tops_table}
 use Rattle.pack_assembly.proofs.ApartLemmas.{all_of, in_row}
 use Rattle.pack_assembly.proofs.PackLemmas.{short_each, short_of}
 use Rattle.pack_assembly.proofs.PlaceLemmas.{are_placed, found_first, lens-append, pack_lens, stands_at}
@@ -141,7 +141,7 @@ module _ (p : Publication) (nodes : Tree → ℕ → List (List ℕ)) (rows : Li
       (in_rest (manifest_kept p) (flat_map (kepts_in p) (rows_in p)) x (in_all (kepts_in p) (rows_in p) r x is_row among)))
 
   above_at : (tree : Tree) (level below : ℕ) → Contains (rows_in p) (row tree level) → (level ≢ 0 → HasRowAt rows tree (level - 1) below)
-      → IsAbove (place_in (all_kepts p)) (nodes tree (level - 1)) (row tree level) below (nodes_in p (row tree level)) (lower_nodes p tree level)
+      → AreParentsOf (place_in (all_kepts p)) (nodes tree (level - 1)) (row tree level) below (nodes_in p (row tree level)) (lower_nodes p tree level)
   above_at tree zero below is_row has = record {
     are = row_of_level p ready.is (row tree zero);
     joined = leafless (nodes_in p (row tree zero)) (row_of_level p ready.is (row tree zero));
@@ -160,7 +160,7 @@ module _ (p : Publication) (nodes : Tree → ℕ → List (List ℕ)) (rows : Li
       }
 
   pub above_of : (r : Row) (below : ℕ) → Contains (rows_in p) r → (r.level ≢ 0 → HasRowAt rows r.tree (r.level - 1) below)
-      → IsAbove (place_in (all_kepts p)) (nodes r.tree (r.level - 1)) r below (nodes_in p r) (lower_nodes p r.tree r.level)
+      → AreParentsOf (place_in (all_kepts p)) (nodes r.tree (r.level - 1)) r below (nodes_in p r) (lower_nodes p r.tree r.level)
   above_of r below is_row has = above_at r.tree r.level below is_row has
 
 -- ---- all bytes

@@ -19,7 +19,7 @@ use Rattle.node_pack.specs.Places.{place_bytes}
 use Rattle.node_pack.specs.declared.place.Place.{Place}
 use Rattle.pack_assembly.specs.declared.row.Row.{Row}
 use Rattle.pack_assembly.specs.internal.Order.{digests_of, kept_of, kepts_of, spellings}
-use Rattle.pack_assembly.specs.internal.Placing.{ArePlaced, IsAbove, IsAmong, IsOfLevel}
+use Rattle.pack_assembly.specs.internal.Placing.{ArePlaced, AreParentsOf, IsAmong, IsOfLevel}
 use Rattle.pack_assembly.proofs.LevelLemmas.{measured}
 use Rattle.pack_assembly.proofs.WriteLemmas.{IsBeingWritten, front_of_both, front_of_first, front_of_whole}
 
@@ -113,8 +113,8 @@ pub inner_level : (level : ℕ) (own : Node) → IsOfLevel level own → length 
 inner_level level (Leaf tree entries) is some = absurd (some refl)
 inner_level level (Inner tree deep links) is some = λ none. absurd (omega (arith, is.1, is.0.1, none))
 
-pub above_next : (place_of : List ℕ → Option Place) (unmeasured rest : List (List ℕ)) (row : Row) (at next : ℕ) (own : Node) (others lower : List Node) → IsAbove place_of unmeasured row at (own ∷ others) lower
-    → (row.level ≢ 0 → IsAmong place_of rest next (drop (length (links_in own)) lower)) → IsAbove place_of rest row next others (drop (length (links_in own)) lower)
+pub above_next : (place_of : List ℕ → Option Place) (unmeasured rest : List (List ℕ)) (row : Row) (at next : ℕ) (own : Node) (others lower : List Node) → AreParentsOf place_of unmeasured row at (own ∷ others) lower
+    → (row.level ≢ 0 → IsAmong place_of rest next (drop (length (links_in own)) lower)) → AreParentsOf place_of rest row next others (drop (length (links_in own)) lower)
 above_next place_of unmeasured rest row at next own others lower above among = record {
   are = above.are.1;
   joined = (first_below own others lower above.joined).dropped;
@@ -123,8 +123,8 @@ above_next place_of unmeasured rest row at next own others lower above among = r
 }
 
 -- where it has no children
-pub above_childless : (place_of : List ℕ → Option Place) (unmeasured : List (List ℕ)) (row : Row) (at : ℕ) (own : Node) (others lower : List Node) → IsAbove place_of unmeasured row at (own ∷ others) lower
-    → length (links_in own) ≡ 0 → IsAbove place_of unmeasured row at others (drop (length (links_in own)) lower)
+pub above_childless : (place_of : List ℕ → Option Place) (unmeasured : List (List ℕ)) (row : Row) (at : ℕ) (own : Node) (others lower : List Node) → AreParentsOf place_of unmeasured row at (own ∷ others) lower
+    → length (links_in own) ≡ 0 → AreParentsOf place_of unmeasured row at others (drop (length (links_in own)) lower)
 above_childless place_of unmeasured row at own others lower above none =
     above_next place_of unmeasured unmeasured row at at own others lower above (λ deep. subst (λ (n : ℕ). IsAmong place_of unmeasured at (drop n lower)) (sym none) (above.among deep))
 
@@ -138,7 +138,7 @@ no_table place_of own none = by (links_in own) none
 -- ---- a level
 
 module _ (place_of : List ℕ → Option Place) (row : Row) (nodes : List Node) where
-  pub none_written : (unread unmeasured : List (List ℕ)) (at : ℕ) (lower : List Node) (old : Option (List ℕ)) → unread ≡ spellings nodes → IsAbove place_of unmeasured row at nodes lower
+  pub none_written : (unread unmeasured : List (List ℕ)) (at : ℕ) (lower : List Node) (old : Option (List ℕ)) → unread ≡ spellings nodes → AreParentsOf place_of unmeasured row at nodes lower
       → IsBeingWritten place_of row nodes unread unmeasured at (Appends old old)
   none_written unread unmeasured at lower old left above = record { done = []; rest = nodes; lower = lower; both = refl; left = left; above = above; written = Appends-nil old }
 
@@ -170,7 +170,7 @@ module _ (place_of : List ℕ → Option Place) (row : Row) (nodes : List Node) 
         subst (AppendsFront old new) (sym whole) (front_of_both old mid new _ _ was.written (front_of_first mid new (record_bytes place_of (kept_of own)) (flat_map (record_bytes place_of) (kepts_of others)) part))
 
     pub one_written : (new : Option (List ℕ)) (own : Node) (others : List Node) (rest below : List (List ℕ)) (next : ℕ) (lower : List Node) → was.rest ≡ own ∷ others → rest ≡ spellings others
-        → Appends mid new (record_bytes place_of (kept_of own)) → IsAbove place_of below row next others lower → IsBeingWritten place_of row nodes rest below next (Appends old new)
+        → Appends mid new (record_bytes place_of (kept_of own)) → AreParentsOf place_of below row next others lower → IsBeingWritten place_of row nodes rest below next (Appends old new)
     one_written new own others rest below next lower first left more above = record {
       done = was.done ++ own ∷ [];
       rest = others;

@@ -13,7 +13,7 @@ use Rattle.node_pack.specs.Packs.{record_bytes}
 use Rattle.node_pack.specs.declared.place.Place.{Place}
 use Rattle.pack_assembly.specs.declared.row.Row.{Row}
 use Rattle.pack_assembly.specs.internal.Order.{kepts_of, spellings}
-use Rattle.pack_assembly.specs.internal.Placing.{IsAbove}
+use Rattle.pack_assembly.specs.internal.Placing.{AreParentsOf}
 
 -- a beginning of the first text begins both
 pub front_of_first : (old new : Option (List ℕ)) (first second : List ℕ) → AppendsFront old new first → AppendsFront old new (first ++ second)
@@ -105,5 +105,5 @@ pub record IsBeingWritten (place_of : List ℕ → Option Place) (row : Row) (no
   pub lower : List Node
   pub both : nodes ≡ done ++ rest
   pub left : unread ≡ spellings rest
-  pub above : IsAbove place_of unmeasured row at rest lower
+  pub above : AreParentsOf place_of unmeasured row at rest lower
   pub written : Written (flat_map (record_bytes place_of) (kepts_of done))

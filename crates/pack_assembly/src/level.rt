@@ -9,7 +9,7 @@ ghost use Rattle.tree_node.specs.Trees.{links_in};
 ghost use Rattle.node_pack.specs.Packs.{child_digests, record_bytes, table};
 ghost use Rattle.node_pack.specs.declared.place.Place.{Place};
 ghost use Rattle.pack_assembly.specs.internal.Order.{kept_of, kepts_of, spellings};
-ghost use Rattle.pack_assembly.specs.internal.Placing.{IsAbove};
+ghost use Rattle.pack_assembly.specs.internal.Placing.{AreParentsOf};
 
 use crate::record::LEVEL_CALLS;
 use crate::row::Row;
@@ -33,19 +33,19 @@ pub(crate) fn write_level<L: NodeLevels, W: Write>(
 ) -> Result<(), Unwritten>
     ensures whole { L.is_true ≡ true → (place_of : List ℕ → Option Place) (nodes lower : List Node)
         → L.nodes levels.old row.tree row.level ≡ spellings nodes
-        → IsAbove place_of (L.nodes levels.old row.tree (row.level - 1)) row below nodes lower
+        → AreParentsOf place_of (L.nodes levels.old row.tree (row.level - 1)) row below nodes lower
         → OnOk result (Appends (W.contents writer.old) (W.contents writer.new)
         (flat_map (record_bytes place_of) (kepts_of nodes))) }
     ensures begun { L.is_true ≡ true → (place_of : List ℕ → Option Place) (nodes lower : List Node)
         → L.nodes levels.old row.tree row.level ≡ spellings nodes
-        → IsAbove place_of (L.nodes levels.old row.tree (row.level - 1)) row below nodes lower
+        → AreParentsOf place_of (L.nodes levels.old row.tree (row.level - 1)) row below nodes lower
         → AppendsFront (W.contents writer.old) (W.contents writer.new)
         (flat_map (record_bytes place_of) (kepts_of nodes)) }
     ensures nodes { OnOk result (L.nodes levels.new ≡ L.nodes levels.old) }
     ensures device { L.is_true ≡ true → L.may_refuse ≡ false
         → (place_of : List ℕ → Option Place) (nodes lower : List Node)
         → L.nodes levels.old row.tree row.level ≡ spellings nodes
-        → IsAbove place_of (L.nodes levels.old row.tree (row.level - 1)) row below nodes lower
+        → AreParentsOf place_of (L.nodes levels.old row.tree (row.level - 1)) row below nodes lower
         → length nodes ≤ 2 ^ 29 → result ≢ Err Unwritten.Device }
 {
     rewind_both(row, levels);
@@ -91,23 +91,23 @@ fn write_record<L: NodeLevels, W: Write>(
 ) -> Result<(), Unwritten>
     ensures whole { L.is_true ≡ true → (place_of : List ℕ → Option Place) (own : Node) (others lower : List Node)
         → node.now ≡ spelling own
-        → IsAbove place_of (L.unmeasured levels.old row.tree (row.level - 1)) row at.old (own ∷ others) lower
+        → AreParentsOf place_of (L.unmeasured levels.old row.tree (row.level - 1)) row at.old (own ∷ others) lower
         → OnOk result (Appends (W.contents writer.old) (W.contents writer.new) (record_bytes place_of (kept_of own))) }
     ensures past { L.is_true ≡ true → (place_of : List ℕ → Option Place) (own : Node) (others lower : List Node)
         → node.now ≡ spelling own
-        → IsAbove place_of (L.unmeasured levels.old row.tree (row.level - 1)) row at.old (own ∷ others) lower
-        → OnOk result (IsAbove place_of (L.unmeasured levels.new row.tree (row.level - 1)) row at.new others
+        → AreParentsOf place_of (L.unmeasured levels.old row.tree (row.level - 1)) row at.old (own ∷ others) lower
+        → OnOk result (AreParentsOf place_of (L.unmeasured levels.new row.tree (row.level - 1)) row at.new others
         (drop (length (links_in own)) lower)) }
     ensures begun { L.is_true ≡ true → (place_of : List ℕ → Option Place) (own : Node) (others lower : List Node)
         → node.now ≡ spelling own
-        → IsAbove place_of (L.unmeasured levels.old row.tree (row.level - 1)) row at.old (own ∷ others) lower
+        → AreParentsOf place_of (L.unmeasured levels.old row.tree (row.level - 1)) row at.old (own ∷ others) lower
         → AppendsFront (W.contents writer.old) (W.contents writer.new) (record_bytes place_of (kept_of own)) }
     ensures nodes { OnOk result (L.nodes levels.new ≡ L.nodes levels.old) }
     ensures unread { OnOk result (L.unread levels.new ≡ L.unread levels.old) }
     ensures device { L.is_true ≡ true → L.may_refuse ≡ false
         → (place_of : List ℕ → Option Place) (own : Node) (others lower : List Node)
         → node.now ≡ spelling own
-        → IsAbove place_of (L.unmeasured levels.old row.tree (row.level - 1)) row at.old (own ∷ others) lower
+        → AreParentsOf place_of (L.unmeasured levels.old row.tree (row.level - 1)) row at.old (own ∷ others) lower
         → result ≢ Err Unwritten.Device }
 {
     if node.len() > NODE_LIMIT {
@@ -130,23 +130,23 @@ fn write_children<L: NodeLevels, W: Write>(
     writer: &mut W,
 ) -> Result<(), Unwritten>
     ensures whole { L.is_true ≡ true → (place_of : List ℕ → Option Place) (own : Node) (others lower : List Node)
-        → IsAbove place_of (L.unmeasured levels.old row.tree (row.level - 1)) row at.old (own ∷ others) lower
+        → AreParentsOf place_of (L.unmeasured levels.old row.tree (row.level - 1)) row at.old (own ∷ others) lower
         → count ≡ length (links_in own)
         → OnOk result (Appends (W.contents writer.old) (W.contents writer.new) (table place_of (child_digests own))) }
     ensures past { L.is_true ≡ true → (place_of : List ℕ → Option Place) (own : Node) (others lower : List Node)
-        → IsAbove place_of (L.unmeasured levels.old row.tree (row.level - 1)) row at.old (own ∷ others) lower
+        → AreParentsOf place_of (L.unmeasured levels.old row.tree (row.level - 1)) row at.old (own ∷ others) lower
         → count ≡ length (links_in own)
-        → OnOk result (IsAbove place_of (L.unmeasured levels.new row.tree (row.level - 1)) row at.new others
+        → OnOk result (AreParentsOf place_of (L.unmeasured levels.new row.tree (row.level - 1)) row at.new others
         (drop count lower)) }
     ensures begun { L.is_true ≡ true → (place_of : List ℕ → Option Place) (own : Node) (others lower : List Node)
-        → IsAbove place_of (L.unmeasured levels.old row.tree (row.level - 1)) row at.old (own ∷ others) lower
+        → AreParentsOf place_of (L.unmeasured levels.old row.tree (row.level - 1)) row at.old (own ∷ others) lower
         → count ≡ length (links_in own)
         → AppendsFront (W.contents writer.old) (W.contents writer.new) (table place_of (child_digests own)) }
     ensures nodes { OnOk result (L.nodes levels.new ≡ L.nodes levels.old) }
     ensures unread { OnOk result (L.unread levels.new ≡ L.unread levels.old) }
     ensures device { L.is_true ≡ true → L.may_refuse ≡ false
         → (place_of : List ℕ → Option Place) (own : Node) (others lower : List Node)
-        → IsAbove place_of (L.unmeasured levels.old row.tree (row.level - 1)) row at.old (own ∷ others) lower
+        → AreParentsOf place_of (L.unmeasured levels.old row.tree (row.level - 1)) row at.old (own ∷ others) lower
         → count ≡ length (links_in own) → result ≢ Err Unwritten.Device }
 {
     if count == 0 {

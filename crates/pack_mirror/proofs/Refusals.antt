@@ -9,7 +9,7 @@ use Rattle.ql_syntax.specs.declared.fault.QlFault.{QlFault}
 use Rattle.osm_gate.specs.Mirrors.{KeepsBudget}
 use Rattle.osm_gate.specs.declared.mirror_fault.MirrorFault.{MirrorFault}
 use Rattle.osm_gate.specs.declared.mirror_fault.MirrorFault.TheVariants.{Memory, Query, Work}
-use Rattle.osm_prove.specs.Budgets.{IsWithin, IsWorkOf}
+use Rattle.osm_prove.specs.Budgets.{IsWithinBudget, IsWorkOf}
 use Rattle.osm_prove.proofs.shared.QueryWorks.{of_query, query_too_much}
 use Rattle.ql_eval.specs.Work.{WorkOfQuery}
 use Rattle.ql_meaning.specs.Meanings.{Telling}
@@ -57,7 +57,7 @@ work_told answers.TooLong is = cc
 
 module _ (tell : Telling) (p : Publication) (query : List ℕ) (statements : Statements) (reads : Reads query statements) where
   -- an answer keeps the query's budget where it keeps that of the statements
-  pub query_within : (most : Option ℕ) → IsWithin (WorkOfQuery tell p statements) most → IsWithin (IsWorkOf tell p query) most
+  pub query_within : (most : Option ℕ) → IsWithinBudget (WorkOfQuery tell p statements) most → IsWithinBudget (IsWorkOf tell p query) most
   query_within most kept = (kept.0, of_query tell p query statements reads kept.0 kept.1, kept.2)
 
   -- and so does what is told for an answer that nodes don't give

@@ -3,5 +3,5 @@
 use Rattle.std.specs.Prelude.{ℕ, ◌-◌, ◌^◌, min}
 
 -- a greater number is told as the greatest one
-abbrev pub capped : ℕ → ℕ
-capped n = min n (2 ^ 64 - 1)
+abbrev pub saturating_u64 : ℕ → ℕ
+saturating_u64 n = min n (2 ^ 64 - 1)

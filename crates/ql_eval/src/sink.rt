@@ -1,7 +1,7 @@
 //! Sinks of answers.
 
 ghost use Rattle.std.specs.Prelude.{◌≡◌, ◌≤◌, ◌++◌, ℕ, Bool, List, [], length, take, true, OnErr, OnOk};
-ghost use Rattle.ql_eval.specs.Lengths.{capped};
+ghost use Rattle.ql_eval.specs.Lengths.{saturating_u64};
 
 use std::alloc::AllocError;
 
@@ -37,7 +37,7 @@ pub trait Sink {
 
     /// The text's length in bytes, or the greatest u64 where it is longer.
     fn len(&self) -> u64
-        ensures { (text : List ℕ) → stands self.now text → result ≡ capped (length text) };
+        ensures { (text : List ℕ) → stands self.now text → result ≡ saturating_u64 (length text) };
 }
 
 /// Holds the text.

@@ -7,7 +7,7 @@ use Rattle.std.specs.List.{AllByRecursion, Contains}
 use Rattle.std.specs.Ordering.{eq_by_cmp}
 use Rattle.std.specs.Prelude.{◌<ℤ◌, ◌≤ℤ◌, bytes_eq, pos}
 use Rattle.osm_model.specs.Boxes.{ExactBox, Holds, Spans}
-use Rattle.osm_model.specs.Edges.{IsAbove, IsAtLeast, IsAtMost}
+use Rattle.osm_model.specs.Edges.{IsGreater, IsAtLeast, IsAtMost}
 use Rattle.osm_model.specs.Elements.{Element, kind_of, ref_cmp, reference}
 use Rattle.osm_model.specs.Membership.{BodyLists}
 use Rattle.osm_model.specs.Places.{Place}
@@ -30,7 +30,7 @@ use Rattle.ref_sets.proofs.shared.References.{equal_is_same, equal_itself}
 use Rattle.ql_meaning.proofs.shared.Chains.{first_is_there, last_is_there}
 use Rattle.ref_sets.proofs.shared.Adding.{first_or_in_rest, here, in_rest, none}
 use Rattle.ref_sets.specs.NamedSets.{Env}
-use Rattle.ql_meaning.specs.Values.{IsAbove as IsAboveOf, IsBelow, IsChain, IsDown, IsIn, IsOfKind, IsOnPath, IsPicked, IsReached, IsSelected, IsUp, Link, Longer, Passes}
+use Rattle.ql_meaning.specs.Values.{IsGreater as IsAboveOf, IsBelow, IsChain, IsDown, IsIn, IsOfKind, IsOnPath, IsPicked, IsReached, IsSelected, IsUp, Link, Longer, Passes}
 
 -- it is so, or it isn't
 abbrev pub Dec : Type 0 → Type 0
@@ -121,11 +121,11 @@ dec_tag o key value =
 
 dec_spans : (b : ExactBox) (lon : ℤ) → Dec (Spans b.west.value b.east.value lon)
 dec_spans b lon =
-    let crosses : Dec (IsAbove b.west.value b.east.value) = dec_less _ _ in
+    let crosses : Dec (IsGreater b.west.value b.east.value) = dec_less _ _ in
     let from_west : Dec (IsAtLeast lon b.west.value) = dec_up_to _ _ in
     let to_east : Dec (IsAtMost lon b.east.value) = dec_up_to _ _ in
     dec_either
-    (dec_as (λ (x : (IsAbove b.west.value b.east.value → ⊥) × (IsAtLeast lon b.west.value × IsAtMost lon b.east.value)). (x.0, x.1.0, x.1.1)) (λ x. (x.0, (x.1, x.2)))
+    (dec_as (λ (x : (IsGreater b.west.value b.east.value → ⊥) × (IsAtLeast lon b.west.value × IsAtMost lon b.east.value)). (x.0, x.1.0, x.1.1)) (λ x. (x.0, (x.1, x.2)))
     (dec_both (dec_not crosses) (dec_both from_west to_east)))
     (dec_both crosses (dec_either from_west to_east))
 

@@ -9,8 +9,8 @@ use Rattle.osm_model.specs.declared.body.Body.TheVariants as bodies
 use Rattle.ql_syntax.specs.Filters.{Filter, InSet, HasKey, KeyIs, LacksKey, KeyIsNot, Ids, Within, Via}
 
 -- a node in the box
-abbrev pub IsWithin : ExactBox → Element → Type 0
-IsWithin area o = (place : Place) × (o.body ≡ bodies.Node place) × Holds area place
+abbrev pub IsNodeInBox : ExactBox → Element → Type 0
+IsNodeInBox area o = (place : Place) × (o.body ≡ bodies.Node place) × Holds area place
 
 -- the filter keeps the object, as far as the object alone tells
 abbrev pub PassesAlone : Filter → Element → Type 0
@@ -20,5 +20,5 @@ PassesAlone (KeyIs key value) o = HasTag o key value
 PassesAlone (LacksKey key) o = ¬ (HasKeyOf o key)
 PassesAlone (KeyIsNot key value) o = ¬ (HasTag o key value)
 PassesAlone (Ids ids) o = ⊤
-PassesAlone (Within area) o = IsWithin area o
+PassesAlone (Within area) o = IsNodeInBox area o
 PassesAlone (Via path name) o = ⊤

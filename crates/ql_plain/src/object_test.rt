@@ -3,7 +3,7 @@
 ghost use Rattle.std.specs.Prelude.{◌↔◌, IsTrue};
 ghost use Rattle.osm_model.specs.Tagged.{HasKeyOf, HasTag};
 ghost use Rattle.ql_syntax.specs.StatementViews.{filter_of};
-ghost use Rattle.ql_meaning.specs.ObjectTests.{IsWithin, PassesAlone};
+ghost use Rattle.ql_meaning.specs.ObjectTests.{IsNodeInBox, PassesAlone};
 ghost use Rattle.ql_meaning.specs.Values.{IsPicked};
 
 use osm_model::{Body, BoxArea, Object};
@@ -40,7 +40,7 @@ pub(crate) fn passes(filter: &Filter<'_>, object: &Object) -> bool
 }
 
 fn is_within(object: &Object, area: &BoxArea<'_>) -> bool
-    ensures { IsTrue result ↔ IsWithin area.now object.now }
+    ensures { IsTrue result ↔ IsNodeInBox area.now object.now }
 {
     match object.body() {
         Body::Node(place) => area.holds(*place),

@@ -35,7 +35,7 @@ use Rattle.ql_syntax.proofs.DefiniteTokens.{definite_token, definite_run, defini
 -- settings
 format_named_is : (place : List ℕ) (word : FormatWord) → Definite (format_named place word)
 format_named_is place (formats.Known format) = definite_give (Some format)
-format_named_is place formats.LeftOut = definite_refuse _ place
+format_named_is place formats.Unsupported = definite_refuse _ place
 format_named_is place formats.Unknown = definite_refuse _ place
 
 format_is : Definite format
@@ -49,7 +49,7 @@ count_is = definite_then _ definite_number (λ number. definite_then _ (definite
 setting_named_is : (place : List ℕ) (word : SettingWord) → Definite (setting_named place word)
 setting_named_is place setting_words.Format = definite_then _ (definite_pass kinds.Colon) (λ colon. format_is)
 setting_named_is place setting_words.Count = definite_then _ (definite_pass kinds.Colon) (λ colon. count_is)
-setting_named_is place setting_words.LeftOut = definite_refuse _ place
+setting_named_is place setting_words.Unsupported = definite_refuse _ place
 setting_named_is place setting_words.Unknown = definite_refuse _ place
 
 setting_is : Definite setting
@@ -120,7 +120,7 @@ path_from_is path = definite_then _ definite_token (λ next. definite_choose _ (
 selector_named_is : (place : List ℕ) (word : SelectorWord) → Definite (selector_named place word)
 selector_named_is place selectors.Ids = id_list_is
 selector_named_is place (selectors.Along path) = path_from_is path
-selector_named_is place selectors.LeftOut = definite_refuse _ place
+selector_named_is place selectors.Unsupported = definite_refuse _ place
 selector_named_is place selectors.Unknown = definite_refuse _ place
 
 word_selector_is : (pick : Pick) (word : Word) → Definite (word_selector pick word)
@@ -164,7 +164,7 @@ once_is false place value = definite_give value
 out_word_at_is : (seen : OutOptions) (place : List ℕ) (word : OutWord) → Definite (out_word_at seen place word)
 out_word_at_is seen place (outs.Mode mode) = once_is (is_some seen.mode) place _
 out_word_at_is seen place outs.Order = once_is seen.ordered place _
-out_word_at_is seen place outs.LeftOut = definite_refuse _ place
+out_word_at_is seen place outs.Unsupported = definite_refuse _ place
 out_word_at_is seen place outs.Unknown = definite_refuse _ place
 
 with_word_is : (seen : OutOptions) (word : Word) → Definite (with_word seen word)
@@ -205,7 +205,7 @@ print_is level start place = definite_case _ _ (print_at_is start place)
 statement_named_is : (level : Level) (place : List ℕ) (word : StatementWord) → Definite (statement_named level place word)
 statement_named_is level place (words.Kind pick) = selection_is pick
 statement_named_is level place words.Print = print_is level _ place
-statement_named_is level place words.LeftOut = definite_refuse _ place
+statement_named_is level place words.Unsupported = definite_refuse _ place
 statement_named_is level place words.Unknown = definite_refuse _ place
 
 word_statement_is : (level : Level) (word : Word) → Definite (word_statement level word)
@@ -215,7 +215,7 @@ word_statement_is level word = definite_case _ _ (statement_named_is level word.
 set_named_is : (level : Level) (start place : List ℕ) (word : StatementWord) → Definite (set_statement_named level start place word)
 set_named_is level start place (words.Kind pick) = definite_refuse _ place
 set_named_is level start place words.Print = print_is level start place
-set_named_is level start place words.LeftOut = definite_refuse _ place
+set_named_is level start place words.Unsupported = definite_refuse _ place
 set_named_is level start place words.Unknown = definite_refuse _ place
 
 set_word_is : (level : Level) (start : List ℕ) (word : Word) → Definite (set_word_statement level start word)

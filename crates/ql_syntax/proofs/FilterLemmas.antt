@@ -1,7 +1,7 @@
 -- Readers of filters that follow rules.
 use Rattle.std.proofs.Common.{◌≡◌, ℕ, List, Result, Ok, Err, refl, sym, subst}
 use Rattle.std.specs.Prelude.{IsErrAnd}
-use Rattle.ql_syntax.specs.internal.Following.{Outcome, Follows, Read, NoMemory}
+use Rattle.ql_syntax.specs.internal.Following.{ParseOutcome, Follows, Read, NoMemory}
 use Rattle.ql_syntax.specs.internal.Places.{IsMemoryOr}
 use Rattle.ql_syntax.specs.TokenRules.{Next, run_here, text_here}
 use Rattle.ql_syntax.specs.QuotedTexts.{IsQuoted, IsNotQuoted}
@@ -13,7 +13,7 @@ use Rattle.ql_syntax.specs.declared.quoted.Quoted.{Quoted}
 use Rattle.ql_syntax.specs.declared.syntax_error.SyntaxError.{SyntaxError}
 use Rattle.ql_syntax.proofs.RuleLemmas.{follows_refuse, follows_memory}
 
-pub follows_not_in_tag : {M : Type 0} {A X : Type 0} {view : X → A × List ℕ} {text : List ℕ} (next : Next) {stop : SyntaxError} → stop.cause ≡ cause_in_tag next.kind → stop.rest.now ≡ next.place → Outcome M (not_in_tag next) view text (Err stop)
+pub follows_not_in_tag : {M : Type 0} {A X : Type 0} {view : X → A × List ℕ} {text : List ℕ} (next : Next) {stop : SyntaxError} → stop.cause ≡ cause_in_tag next.kind → stop.rest.now ≡ next.place → ParseOutcome M (not_in_tag next) view text (Err stop)
 unfolding not_in_tag
 follows_not_in_tag next cause place = follows_refuse cause place
 
@@ -28,7 +28,7 @@ pub quoted_read : {text : List ℕ} {q : Quoted} → IsQuoted text q.text q.rest
 unfolding text_here
 quoted_read {q = q} reads = Read q refl reads
 
-pub run_read : {M : Type 0} {X : Type 0} {view : X → List ℕ × List ℕ} {text run rest : List ℕ} {x : X} → IsRun text run rest → (view x).0 ≡ run → (view x).1 ≡ rest → Outcome M run_here view text (Ok x)
+pub run_read : {M : Type 0} {X : Type 0} {view : X → List ℕ × List ℕ} {text run rest : List ℕ} {x : X} → IsRun text run rest → (view x).0 ≡ run → (view x).1 ≡ rest → ParseOutcome M run_here view text (Ok x)
 unfolding run_here
 run_read {view = view} {text = text} {run = run} {rest = rest} {x = x} is value left =
     Read x refl (subst (λ (a : List ℕ). IsRun text a (view x).1) (sym value) (subst (λ (b : List ℕ). IsRun text run b) (sym left) is))

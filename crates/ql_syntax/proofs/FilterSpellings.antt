@@ -289,7 +289,7 @@ module _ (text rest : List ℕ) {opened : List ℕ} (kind : says "(" text opened
   unfolding refuse
   named_split pick f place word words.Ids is spelled r = id_list_split text rest kind f (selector_is word spelled pick words.Ids is) r
   named_split pick f place word (words.Along path) is spelled r = path_split text rest kind _ f path (selector_is word spelled pick (words.Along path) is) r
-  named_split pick f place word words.LeftOut is spelled r = absurd r
+  named_split pick f place word words.Unsupported is spelled r = absurd r
   named_split pick f place word words.Unknown is spelled r = absurd r
 
   selector_split : (pick : Pick) (f : Filter) → (selector pick).reads opened f rest → grammar.filter f text rest

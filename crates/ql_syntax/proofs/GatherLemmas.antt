@@ -2,7 +2,7 @@
 use Rattle.std.proofs.Common.{◌≡◌, ℕ, List, [], ◌∷◌, ◌++◌, Option, None, Some, Result, Ok, Err, refl, sym, ◌∙◌, ap, subst, map}
 use Rattle.std.proofs.lemmas.List.{map-append}
 use Rattle.std.specs.Prelude.{IsErrAnd}
-use Rattle.ql_syntax.specs.internal.Following.{Outcome, Follows}
+use Rattle.ql_syntax.specs.internal.Following.{ParseOutcome, Follows}
 use Rattle.ql_syntax.specs.Rules.{Rule, ◌>>=◌, give, gather, gather_round, gathered, More, Done}
 use Rattle.ql_syntax.specs.declared.syntax_error.SyntaxError.{SyntaxError}
 use Rattle.ql_syntax.proofs.Lengths.{Within, within_then, within_give}
@@ -13,21 +13,21 @@ use Rattle.ql_syntax.proofs.TokenLengths.{IsOne, within_repeat}
 module _ {A : Type 0} {item : Rule (Option A)} {first : List A} {begin : List ℕ} where
   -- one more
   pub gather_next : {M Y : Type 0} {found longer : List A} {one : A} {text : List ℕ} {v : Y → Option A × List ℕ} {y : Y} → Reaches (gather_round item) first begin found text
-      → Outcome M item v text (Ok y) → longer ≡ found ++ one ∷ [] → (v y).0 ≡ Some one → Reaches (gather_round item) first begin longer (v y).1
+      → ParseOutcome M item v text (Ok y) → longer ≡ found ++ one ∷ [] → (v y).0 ≡ Some one → Reaches (gather_round item) first begin longer (v y).1
   unfolding gather_round ◌>>=◌ give
   gather_next {found = found} {longer = longer} {text = text} {v = v} {y = y} reach follows with_one is =
       Step found longer text (v y).1 reach (record { front = (v y).0; middle = (v y).1; front_reads = read_of follows; back_reads = (ap (λ (all : List A). More all) with_one ∙ ap (λ (o : Option A). gathered found o) (sym is), refl) })
 
   -- the end
   pub gather_done : {M N X Y : Type 0} {found : List A} {text : List ℕ} {v : Y → Option A × List ℕ} {y : Y} {view : X → List A × List ℕ} {x : X} → Reaches (gather_round item) first begin found text
-      → Outcome M item v text (Ok y) → (v y).0 ≡ None → (view x).0 ≡ found → (view x).1 ≡ (v y).1 → Outcome N (gather item first) view begin (Ok x)
+      → ParseOutcome M item v text (Ok y) → (v y).0 ≡ None → (view x).0 ≡ found → (view x).1 ≡ (v y).1 → ParseOutcome N (gather item first) view begin (Ok x)
   unfolding gather gather_round ◌>>=◌ give
   gather_done {found = found} {v = v} {y = y} {view = view} {x = x} reach follows is all rest =
       follows_rounds reach (follows_then _ follows (follows_give (ap (λ (s : List A). Done s) all ∙ sym (ap (λ (o : Option A). gathered found o) is)) rest))
 
   -- a stop
   pub gather_stop : {M X Y : Type 0} {found : List A} {text : List ℕ} {v : Y → Option A × List ℕ} {stop : SyntaxError} {view : X → List A × List ℕ} {r : Result X SyntaxError} → Reaches (gather_round item) first begin found text
-      → Outcome M item v text (Err stop) → IsErrAnd r (λ f. f ≡ stop) → Follows (gather item first) view begin r
+      → ParseOutcome M item v text (Err stop) → IsErrAnd r (λ f. f ≡ stop) → Follows (gather item first) view begin r
   unfolding gather gather_round
   gather_stop reach follows is = follows_rounds reach (follows_stop _ follows is)
 

@@ -31,11 +31,11 @@ unfolding not_in_tag
 gives_in_tag next = gives_refuse _ next.place
 
 -- a word that begins a path names one that the kind allows
-allowed : (pick : Pick) (p path : Path) (test : Bool) → allows pick p ≡ test → cond test (selectors.Along p) selectors.LeftOut ≡ selectors.Along path → allows pick path ≡ true
+allowed : (pick : Pick) (p path : Path) (test : Bool) → allows pick p ≡ test → cond test (selectors.Along p) selectors.Unsupported ≡ selectors.Along path → allows pick path ≡ true
 allowed pick p path true is e = let same : p ≡ path = cc in subst (λ (q : Path). allows pick q ≡ true) same is
 allowed pick p path false is e = absurd (cc)
 
-along : (pick : Pick) (path : Path) (b c : Bool) (o : Option Path) → cond b selectors.Ids (cond c selectors.LeftOut (path_word pick o)) ≡ selectors.Along path → allows pick path ≡ true
+along : (pick : Pick) (path : Path) (b c : Bool) (o : Option Path) → cond b selectors.Ids (cond c selectors.Unsupported (path_word pick o)) ≡ selectors.Along path → allows pick path ≡ true
 along pick path true c o e = absurd (cc)
 along pick path false true o e = absurd (cc)
 along pick path false false None e = absurd (cc)
@@ -72,7 +72,7 @@ module _ (pick : Pick) where
   named_gives : (place word : List ℕ) (case : SelectorWord) → selector_word pick word ≡ case → Gives (Allows pick) (selector_named place case)
   named_gives place word selectors.Ids is = id_list_gives
   named_gives place word (selectors.Along path) is = path_from_gives path (along pick path _ _ (path_of word) is)
-  named_gives place word selectors.LeftOut is = gives_refuse _ place
+  named_gives place word selectors.Unsupported is = gives_refuse _ place
   named_gives place word selectors.Unknown is = gives_refuse _ place
 
   word_selector_gives : (word : Word) → Gives (Allows pick) (word_selector pick word)
@@ -162,7 +162,7 @@ module _ (level : Level) (depth : ℕ) where
   statement_named_gives : (place : List ℕ) (word : StatementWord) → Gives (IsAt level depth) (statement_named level place word)
   statement_named_gives place (words.Kind pick) = selection_gives level depth pick
   statement_named_gives place words.Print = print_gives _ place
-  statement_named_gives place words.LeftOut = gives_refuse _ place
+  statement_named_gives place words.Unsupported = gives_refuse _ place
   statement_named_gives place words.Unknown = gives_refuse _ place
 
   word_statement_gives : (word : Word) → Gives (IsAt level depth) (word_statement level word)
@@ -172,7 +172,7 @@ module _ (level : Level) (depth : ℕ) where
   set_named_gives : (start place : List ℕ) (word : StatementWord) → Gives (IsAt level depth) (set_statement_named level start place word)
   set_named_gives start place (words.Kind pick) = gives_refuse _ place
   set_named_gives start place words.Print = print_gives start place
-  set_named_gives start place words.LeftOut = gives_refuse _ place
+  set_named_gives start place words.Unsupported = gives_refuse _ place
   set_named_gives start place words.Unknown = gives_refuse _ place
 
   set_word_gives : (start : List ℕ) (word : Word) → Gives (IsAt level depth) (set_word_statement level start word)

@@ -22,7 +22,7 @@ once_within false place value = within_give value
 word_at_within : {start : List ℕ} (seen : OutOptions) (place : List ℕ) (word : OutWord) → Within start (out_word_at seen place word)
 word_at_within seen place (words.Mode mode) = once_within (is_some seen.mode) place _
 word_at_within seen place words.Order = once_within seen.ordered place _
-word_at_within seen place words.LeftOut = within_refuse _ place
+word_at_within seen place words.Unsupported = within_refuse _ place
 word_at_within seen place words.Unknown = within_refuse _ place
 
 with_word_within : {start : List ℕ} (seen : OutOptions) (word : Word) → Within start (with_word seen word)

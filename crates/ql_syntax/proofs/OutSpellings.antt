@@ -128,7 +128,7 @@ module _ (seen next found : OutOptions) (text middle rest : List ℕ) (more : Af
       an_order : out_spelled words.Order text middle → grammar.out_order text middle
       an_order (inl asc) = inl asc
       an_order (inr qt) = inr (inl qt)
-  word_leads place w begin words.LeftOut is spelled r = absurd r
+  word_leads place w begin words.Unsupported is spelled r = absurd r
   word_leads place w begin words.Unknown is spelled r = absurd r
 
   number_leads : (number : Number) (begin : List ℕ) → IsNumberOf (λ (d : Decimal). d ≡ number.number) text begin → (with_number seen number).reads begin next middle → After seen found text rest

@@ -191,7 +191,7 @@ module _ {whole : List ℕ} where
   in_selector_named : (place : List ℕ) (case : SelectorWord) → Ends whole place → Inside whole Anywhere (selector_named place case)
   in_selector_named place selectors.Ids at = in_id_list
   in_selector_named place (selectors.Along path) at = in_path_from path
-  in_selector_named place selectors.LeftOut at = inside_refuse _ tt at
+  in_selector_named place selectors.Unsupported at = inside_refuse _ tt at
   in_selector_named place selectors.Unknown at = inside_refuse _ tt at
 
   in_word_selector : (pick : Pick) (word : Word) → WordIn whole word → Inside whole Anywhere (word_selector pick word)
@@ -232,7 +232,7 @@ module _ {whole : List ℕ} where
   in_out_word_at : (seen : OutOptions) (place : List ℕ) (case : OutWord) → Ends whole place → Inside whole Anywhere (out_word_at seen place case)
   in_out_word_at seen place (out_words.Mode mode) at = in_once _ place _ at
   in_out_word_at seen place out_words.Order at = in_once _ place _ at
-  in_out_word_at seen place out_words.LeftOut at = inside_refuse _ tt at
+  in_out_word_at seen place out_words.Unsupported at = inside_refuse _ tt at
   in_out_word_at seen place out_words.Unknown at = inside_refuse _ tt at
 
   in_with_word : (seen : OutOptions) (word : Word) → WordIn whole word → Inside whole Anywhere (with_word seen word)
@@ -256,7 +256,7 @@ module _ {whole : List ℕ} where
   -- settings
   in_format_named : (place : List ℕ) (case : FormatWord) → Ends whole place → Inside whole Anywhere (format_named place case)
   in_format_named place (formats.Known format) at = inside_give _ tt
-  in_format_named place formats.LeftOut at = inside_refuse _ tt at
+  in_format_named place formats.Unsupported at = inside_refuse _ tt at
   in_format_named place formats.Unknown at = inside_refuse _ tt at
 
   in_format : Inside whole Anywhere format
@@ -270,7 +270,7 @@ module _ {whole : List ℕ} where
   in_setting_named : (place : List ℕ) (case : SettingWord) → Ends whole place → Inside whole Anywhere (setting_named place case)
   in_setting_named place setting_words.Format at = inside_then _ (in_pass _) (λ colon is. in_format)
   in_setting_named place setting_words.Count at = inside_then _ (in_pass _) (λ colon is. in_count)
-  in_setting_named place setting_words.LeftOut at = inside_refuse _ tt at
+  in_setting_named place setting_words.Unsupported at = inside_refuse _ tt at
   in_setting_named place setting_words.Unknown at = inside_refuse _ tt at
 
   in_setting_value : (name : Word) → WordIn whole name → Inside whole Anywhere (setting_value name)
@@ -313,7 +313,7 @@ module _ {whole : List ℕ} where
   in_statement_named : (level : Level) (place : List ℕ) (case : StatementWord) → Ends whole place → Inside whole Anywhere (statement_named level place case)
   in_statement_named level place (words.Kind pick) at = in_selection pick
   in_statement_named level place words.Print at = in_print level _ place at
-  in_statement_named level place words.LeftOut at = inside_refuse _ tt at
+  in_statement_named level place words.Unsupported at = inside_refuse _ tt at
   in_statement_named level place words.Unknown at = inside_refuse _ tt at
 
   in_word_statement : (level : Level) (word : Word) → WordIn whole word → Inside whole Anywhere (word_statement level word)
@@ -323,7 +323,7 @@ module _ {whole : List ℕ} where
   in_set_statement_named : (level : Level) (start place : List ℕ) (case : StatementWord) → Ends whole place → Inside whole Anywhere (set_statement_named level start place case)
   in_set_statement_named level start place (words.Kind pick) at = inside_refuse _ tt at
   in_set_statement_named level start place words.Print at = in_print level start place at
-  in_set_statement_named level start place words.LeftOut at = inside_refuse _ tt at
+  in_set_statement_named level start place words.Unsupported at = inside_refuse _ tt at
   in_set_statement_named level start place words.Unknown at = inside_refuse _ tt at
 
   in_set_word : (level : Level) (start : List ℕ) (word : Word) → WordIn whole word → Inside whole Anywhere (set_word_statement level start word)

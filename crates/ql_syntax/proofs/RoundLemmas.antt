@@ -1,6 +1,6 @@
 -- Readers that go on in rounds.
 use Rattle.std.proofs.Common.{◌≡◌, ℕ, List, Result, Ok}
-use Rattle.ql_syntax.specs.internal.Following.{Outcome, Read, Stopped, NoMemory}
+use Rattle.ql_syntax.specs.internal.Following.{ParseOutcome, Read, Stopped, NoMemory}
 use Rattle.ql_syntax.specs.Rules.{Rule, repeat, Round, More, Done, RoundsRead, Last, Next, RoundsStop, Here, Later}
 use Rattle.ql_syntax.specs.declared.cause.QlCause.{QlCause}
 use Rattle.ql_syntax.specs.declared.syntax_error.SyntaxError.{SyntaxError}
@@ -21,12 +21,12 @@ module _ {S A : Type 0} {round : S → Rule (Round S A)} {first : S} {begin : Li
   rounds_stop cause place _ _ (Step before next middle later reach step) stops = rounds_stop cause place before middle reach (Later before next middle later step stops)
 
   -- one more round
-  pub reaches_next : {M Y : Type 0} {state next : S} {text : List ℕ} {v : Y → Round S A × List ℕ} {y : Y} → Reaches round first begin state text → Outcome M (round state) v text (Ok y) → (v y).0 ≡ More next → Reaches round first begin next (v y).1
+  pub reaches_next : {M Y : Type 0} {state next : S} {text : List ℕ} {v : Y → Round S A × List ℕ} {y : Y} → Reaches round first begin state text → ParseOutcome M (round state) v text (Ok y) → (v y).0 ≡ More next → Reaches round first begin next (v y).1
   reaches_next {state = state} {next = next} {text = text} {v = v} {y = y} reach follows is = Step state next text (v y).1 reach (rw (← is) (read_of follows))
 
   -- the last round
   pub follows_rounds : {M X : Type 0} {state : S} {text : List ℕ} {view : X → A × List ℕ} {r : Result X SyntaxError} → Reaches round first begin state text
-      → Outcome M (round state) (λ x. (Done (view x).0, (view x).1)) text r → Outcome M (repeat round first) view begin r
+      → ParseOutcome M (round state) (λ x. (Done (view x).0, (view x).1)) text r → ParseOutcome M (repeat round first) view begin r
   unfolding repeat
   follows_rounds {state = state} {text = text} reach (Read x same reads) = Read x same (rounds_read _ _ state text reach (Last state text reads))
   follows_rounds {state = state} {text = text} reach (Stopped stop same stops) = Stopped stop same (rounds_stop _ _ state text reach (Here state text stops))

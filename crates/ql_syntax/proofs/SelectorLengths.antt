@@ -44,7 +44,7 @@ path_from_within path = within_next _ (λ next. within_choose _ (within_then _ (
 named_within : {start : List ℕ} (place : List ℕ) (word : SelectorWord) → Within start (selector_named place word)
 named_within place words.Ids = id_list_within
 named_within place (words.Along path) = path_from_within path
-named_within place words.LeftOut = within_refuse _ place
+named_within place words.Unsupported = within_refuse _ place
 named_within place words.Unknown = within_refuse _ place
 
 word_selector_within : {start : List ℕ} (pick : Pick) (word : Word) → Within start (word_selector pick word)

@@ -11,7 +11,7 @@ use Rattle.ql_syntax.proofs.Lengths.{Within, Shorter, within_shorter, within_the
 
 format_named_within : {start : List ℕ} (place : List ℕ) (word : FormatWord) → Within start (format_named place word)
 format_named_within place (formats.Known format) = within_give _
-format_named_within place formats.LeftOut = within_refuse _ place
+format_named_within place formats.Unsupported = within_refuse _ place
 format_named_within place formats.Unknown = within_refuse _ place
 
 format_within : {start : List ℕ} → Within start format
@@ -25,7 +25,7 @@ count_within = within_then _ within_number (λ number. within_then _ (within_cou
 value_named_within : {start : List ℕ} (place : List ℕ) (word : SettingWord) → Within start (setting_named place word)
 value_named_within place words.Format = within_then _ (within_shorter (shorter_pass kinds.Colon (lit≤ tt))) (λ colon. format_within)
 value_named_within place words.Count = within_then _ (within_shorter (shorter_pass kinds.Colon (lit≤ tt))) (λ colon. count_within)
-value_named_within place words.LeftOut = within_refuse _ place
+value_named_within place words.Unsupported = within_refuse _ place
 value_named_within place words.Unknown = within_refuse _ place
 
 setting_shorter : Shorter setting

@@ -44,7 +44,7 @@ format_split text rest value r = by_word (format_of (r.front).word) refl r.back_
   where
     by_word : (case : FormatWord) → format_of (r.front).word ≡ case → (format_named (r.front).place case).reads r.middle value rest → (word "json" or word "xml") text rest
     by_word (formats.Known f) is it = spelled_to (word "json" or word "xml") it.1 (any_format f (format_is (r.front).word (a_word_split r.front r.front_reads) (formats.Known f) is))
-    by_word formats.LeftOut is it = absurd it
+    by_word formats.Unsupported is it = absurd it
     by_word formats.Unknown is it = absurd it
 
 abbrev A_count : Decimal → Type 0
@@ -65,7 +65,7 @@ body_split text middle rest value place w words.Format is spelled r =
     inl (both middle (setting_is w spelled words.Format is) (both r.middle (pass_sound kinds.Colon (alike middle) (record { reads = r.front_reads })) (format_split r.middle rest value r.back_reads)))
 body_split text middle rest value place w words.Count is spelled r =
     inr (both middle (setting_is w spelled words.Count is) (both r.middle (pass_sound kinds.Colon (alike middle) (record { reads = r.front_reads })) (count_split value r.back_reads)))
-body_split text middle rest value place w words.LeftOut is spelled r = absurd r
+body_split text middle rest value place w words.Unsupported is spelled r = absurd r
 body_split text middle rest value place w words.Unknown is spelled r = absurd r
 
 setting_split : (text rest : List ℕ) (value : Option Format) → setting.reads text value rest → Both body (says "]") text rest

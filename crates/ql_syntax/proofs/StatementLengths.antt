@@ -79,7 +79,7 @@ print_shorter level start place = print_at_shorter start place level
 named_shorter : (level : Level) (place : List ℕ) (word : StatementWord) → Shorter (statement_named level place word)
 named_shorter level place (words.Kind pick) = selection_shorter pick
 named_shorter level place words.Print = print_shorter level _ place
-named_shorter level place words.LeftOut = shorter_refuse _ place
+named_shorter level place words.Unsupported = shorter_refuse _ place
 named_shorter level place words.Unknown = shorter_refuse _ place
 
 word_statement_shorter : (level : Level) (word : Word) → Shorter (word_statement level word)
@@ -89,7 +89,7 @@ word_statement_shorter level word = named_shorter level word.place _
 set_named_shorter : (level : Level) (start place : List ℕ) (word : StatementWord) → Shorter (set_statement_named level start place word)
 set_named_shorter level start place (words.Kind pick) = shorter_refuse _ place
 set_named_shorter level start place words.Print = print_shorter level start place
-set_named_shorter level start place words.LeftOut = shorter_refuse _ place
+set_named_shorter level start place words.Unsupported = shorter_refuse _ place
 set_named_shorter level start place words.Unknown = shorter_refuse _ place
 
 set_word_shorter : (level : Level) (start : List ℕ) (word : Word) → Shorter (set_word_statement level start word)

@@ -133,14 +133,14 @@ module _ (text rest : List ℕ) where
   unfolding refuse print by_case
   named_split level place w s (words.Kind pick) is spelled r = selection_split _ s pick (statement_is w spelled (words.Kind pick) is) r
   named_split level place w s words.Print is spelled r = print_split s (codes "_") place level (inr (refl, refl)) (statement_is w spelled words.Print is) r
-  named_split level place w s words.LeftOut is spelled r = absurd r
+  named_split level place w s words.Unsupported is spelled r = absurd r
   named_split level place w s words.Unknown is spelled r = absurd r
 
   set_named_split : (level : Level) (start place w : List ℕ) {middle after : List ℕ} (s : Statement) (case : StatementWord) → statement_word w ≡ case → named_set start text middle → IsWordOf (λ (v : List ℕ). v ≡ w) middle after → (set_statement_named level start place case).reads after s rest → grammar.statement s text rest
   unfolding refuse print by_case
   set_named_split level start place w s (words.Kind pick) is named spelled r = absurd r
   set_named_split level start place w s words.Print is named spelled r = print_split s start place level (inl named) (statement_is w spelled words.Print is) r
-  set_named_split level start place w s words.LeftOut is named spelled r = absurd r
+  set_named_split level start place w s words.Unsupported is named spelled r = absurd r
   set_named_split level start place w s words.Unknown is named spelled r = absurd r
 
   -- by what follows the name of a set

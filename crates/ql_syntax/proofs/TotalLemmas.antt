@@ -7,12 +7,12 @@ use Rattle.ql_syntax.specs.declared.cause.QlCause.{QlCause}
 use Rattle.ql_syntax.proofs.Lengths.{Shorter}
 use Rattle.ql_syntax.proofs.TokenLengths.{ShorterWhere, IsOne}
 
-pub data Outcome {A : Type 0} (rule : Rule A) (text : List ℕ) : Type 0 where
-  AsRead : (value : A) (rest : List ℕ) → rule.reads text value rest → Outcome rule text
-  AsStop : (cause : QlCause) (place : List ℕ) → rule.stops text cause place → Outcome rule text
+pub data TotalAt {A : Type 0} (rule : Rule A) (text : List ℕ) : Type 0 where
+  AsRead : (value : A) (rest : List ℕ) → rule.reads text value rest → TotalAt rule text
+  AsStop : (cause : QlCause) (place : List ℕ) → rule.stops text cause place → TotalAt rule text
 
 pub record Total {A : Type 0} (rule : Rule A) : Type 0 where
-  pub at : (text : List ℕ) → Outcome rule text
+  pub at : (text : List ℕ) → TotalAt rule text
 
 pub total_give : {A : Type 0} (value : A) → Total (give value)
 unfolding give
@@ -26,21 +26,21 @@ pub total_unexpected : {A : Type 0} (next : Next) → Total (unexpected {A = A} 
 unfolding unexpected
 total_unexpected next = total_refuse _ next.place
 
-moved : {A : Type 0} {rule : Rule A} (start text : List ℕ) → Outcome rule start → Outcome (from start rule) text
+moved : {A : Type 0} {rule : Rule A} (start text : List ℕ) → TotalAt rule start → TotalAt (from start rule) text
 unfolding from
 moved start text (AsRead v r reads) = AsRead v r reads
 moved start text (AsStop c p stops) = AsStop c p stops
 
-pub total_from : {A : Type 0} {rule : Rule A} (start : List ℕ) → Outcome rule start → Total (from start rule)
+pub total_from : {A : Type 0} {rule : Rule A} (start : List ℕ) → TotalAt rule start → Total (from start rule)
 total_from start o = record { at = λ text. moved start text o }
 
 module _ {A B : Type 0} (first : Rule A) (second : A → Rule B) where
-  after : (text : List ℕ) (a : A) (m : List ℕ) → first.reads text a m → Outcome (second a) m → Outcome (first >>= second) text
+  after : (text : List ℕ) (a : A) (m : List ℕ) → first.reads text a m → TotalAt (second a) m → TotalAt (first >>= second) text
   unfolding ◌>>=◌
   after text a m x (AsRead v r reads) = AsRead v r (record { front = a; middle = m; front_reads = x; back_reads = reads })
   after text a m x (AsStop c p stops) = AsStop c p (Second a m x stops)
 
-  both : (text : List ℕ) → ((a : A) → Total (second a)) → Outcome first text → Outcome (first >>= second) text
+  both : (text : List ℕ) → ((a : A) → Total (second a)) → TotalAt first text → TotalAt (first >>= second) text
   unfolding ◌>>=◌
   both text s (AsRead a m x) = after text a m x ((s a).at m)
   both text s (AsStop c p stops) = AsStop c p (First stops)
@@ -49,12 +49,12 @@ pub total_then : {A B : Type 0} {first : Rule A} (second : A → Rule B) → Tot
 total_then {first = first} second f s = record { at = λ text. both first second text s (f.at text) }
 
 module _ {A : Type 0} (holds : Type 0) (first other : Rule A) where
-  in_first : (text : List ℕ) → holds → Outcome first text → Outcome (choose holds first other) text
+  in_first : (text : List ℕ) → holds → TotalAt first text → TotalAt (choose holds first other) text
   unfolding choose
   in_first text it (AsRead v r reads) = AsRead v r (inl (it, reads))
   in_first text it (AsStop c p stops) = AsStop c p (inl (it, stops))
 
-  in_other : (text : List ℕ) → (holds → ⊥) → Outcome other text → Outcome (choose holds first other) text
+  in_other : (text : List ℕ) → (holds → ⊥) → TotalAt other text → TotalAt (choose holds first other) text
   unfolding choose
   in_other text not (AsRead v r reads) = AsRead v r (inr (not, reads))
   in_other text not (AsStop c p stops) = AsStop c p (inr (not, stops))
@@ -73,13 +73,13 @@ IsMore (More state) = Unit {0}
 IsMore (Done value) = ⊥
 
 module _ {S A : Type 0} {round : S → Rule (Round S A)} (each : (state : S) → Total (round state)) (short : (state : S) → ShorterWhere IsMore (round state)) where
-  one_more : (state next : S) (text middle : List ℕ) → (round state).reads text (More next) middle → Outcome (repeat round next) middle → Outcome (repeat round state) text
+  one_more : (state next : S) (text middle : List ℕ) → (round state).reads text (More next) middle → TotalAt (repeat round next) middle → TotalAt (repeat round state) text
   unfolding repeat
   one_more state next text middle x (AsRead v r reads) = AsRead v r (rounds.Next state next text middle x reads)
   one_more state next text middle x (AsStop c p stops) = AsStop c p (Later state next text middle x stops)
 
-  from_round : (n : ℕ) → ((next : S) (middle : List ℕ) → length middle < n → Outcome (repeat round next) middle)
-      → (state : S) (text : List ℕ) → length text < suc n → Outcome (round state) text → Outcome (repeat round state) text
+  from_round : (n : ℕ) → ((next : S) (middle : List ℕ) → length middle < n → TotalAt (repeat round next) middle)
+      → (state : S) (text : List ℕ) → length text < suc n → TotalAt (round state) text → TotalAt (repeat round state) text
   unfolding repeat
   from_round n again state text few (AsStop c p stops) = AsStop c p (Here state text stops)
   from_round n again state text few (AsRead (Done v) r reads) = AsRead v r (rounds.Last state text reads)
@@ -87,7 +87,7 @@ module _ {S A : Type 0} {round : S → Rule (Round S A)} (each : (state : S) →
       let less = (short state).below text (More next) middle tt reads in
       one_more state next text middle reads (again next middle (omega arith))
 
-  rounds_at : (n : ℕ) (state : S) (text : List ℕ) → length text < n → Outcome (repeat round state) text
+  rounds_at : (n : ℕ) (state : S) (text : List ℕ) → length text < n → TotalAt (repeat round state) text
   rounds_at zero state text few = absurd (omega arith)
   rounds_at (suc n) state text few = from_round n (rounds_at n) state text few ((each state).at text)
 

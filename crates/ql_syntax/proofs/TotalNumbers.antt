@@ -8,13 +8,13 @@ use Rattle.std.specs.Ordering.{int_eq}
 use Rattle.std.specs.Prelude.{T}
 use Rattle.std.specs.Str.Parse.{digits_value}
 use Rattle.osm_model.specs.Degrees.{Decimal, with_sign}
-use Rattle.osm_model.specs.Edges.{IsWithin, IsAbove}
+use Rattle.osm_model.specs.Edges.{IsOnAxis, IsGreater}
 use Rattle.osm_model.specs.declared.axis.Axis.{Axis}
 use Rattle.osm_model.specs.declared.axis.Axis.TheVariants.{Lon, Lat}
 use Rattle.ql_syntax.specs.Areas.{Corners, AreBox, area, box_of}
 use Rattle.ql_syntax.specs.WholeNumbers.{id_of, count_of}
 use Rattle.ql_syntax.specs.declared.cause.QlCause.TheVariants as causes
-use Rattle.ql_syntax.proofs.TotalLemmas.{Outcome, AsRead, AsStop, Total}
+use Rattle.ql_syntax.proofs.TotalLemmas.{TotalAt, AsRead, AsStop, Total}
 
 same_integer : (x y : ℤ) → (x ≡ y) ⊎ (x ≡ y → ⊥)
 same_integer x y = elim (cases_Bool (int_eq x y)) [
@@ -28,7 +28,7 @@ fits z = elim (same_integer (int_wrap w64 z) z) [
   | inr other ↦ inr (λ fit. other (int_wrap_fits w64 z fit))
 ]
 
-id_outcome : (number : Decimal) (place text : List ℕ) (f : Option (List ℕ)) → number.fraction ≡ f → FitsSigned w64 (with_sign number.negative (digits_value 10 number.whole)) ⊎ (FitsSigned w64 (with_sign number.negative (digits_value 10 number.whole)) → ⊥) → Outcome (id_of number place) text
+id_outcome : (number : Decimal) (place text : List ℕ) (f : Option (List ℕ)) → number.fraction ≡ f → FitsSigned w64 (with_sign number.negative (digits_value 10 number.whole)) ⊎ (FitsSigned w64 (with_sign number.negative (digits_value 10 number.whole)) → ⊥) → TotalAt (id_of number place) text
 unfolding id_of
 id_outcome number place text None none (inl fit) = AsRead (with_sign number.negative (digits_value 10 number.whole)) text (((record { no_point = none; value_is = refl }), fit), refl)
 id_outcome number place text None none (inr not) = AsStop causes.NumberOutOfRange place ((λ value is. not (subst (λ (k : ℤ). FitsSigned w64 k) (sym (is.0).value_is) is.1)), refl, refl)
@@ -56,7 +56,7 @@ counted false n = elim (is_below n (2 ^ 64)) [
   | inr large ↦ IsNot (λ v same small. large (let e : n ≡ v = cc in subst (λ (k : ℕ). k < 2 ^ 64) (sym e) small))
 ]
 
-count_outcome : (number : Decimal) (place text : List ℕ) (f : Option (List ℕ)) → number.fraction ≡ f → Counted number.negative (digits_value 10 number.whole) → Outcome (count_of number place) text
+count_outcome : (number : Decimal) (place text : List ℕ) (f : Option (List ℕ)) → number.fraction ≡ f → Counted number.negative (digits_value 10 number.whole) → TotalAt (count_of number place) text
 unfolding count_of
 count_outcome number place text None none (Is v same small) = AsRead v text (((record { no_point = none; value_is = same }), small), refl)
 count_outcome number place text None none (IsNot not) = AsStop causes.NumberOutOfRange place ((λ value is. not value (is.0).value_is is.1), refl, refl)
@@ -66,14 +66,14 @@ pub total_count : (number : Decimal) (place : List ℕ) → Total (count_of numb
 total_count number place = record { at = λ text. count_outcome number place text number.fraction refl (counted number.negative (digits_value 10 number.whole)) }
 
 -- a box, or none
-is_within : (axis : Axis) (d : Decimal) → IsWithin axis d ⊎ (IsWithin axis d → ⊥)
+is_within : (axis : Axis) (d : Decimal) → IsOnAxis axis d ⊎ (IsOnAxis axis d → ⊥)
 is_within axis d = is_most _ _
 
 is_held : (b : Bool) → T b ⊎ (T b → ⊥)
 is_held true = inl tt
 is_held false = inr (λ bad. bad)
 
-is_above : (d e : Decimal) → IsAbove d e ⊎ (IsAbove d e → ⊥)
+is_above : (d e : Decimal) → IsGreater d e ⊎ (IsGreater d e → ⊥)
 is_above d e = elim (is_held _) [ inl held ↦ inl (record { lt = held }) | inr not ↦ inr (λ above. not above.lt) ]
 
 are_box : (c : Corners) → AreBox c ⊎ (AreBox c → ⊥)
@@ -94,7 +94,7 @@ are_box c = elim (is_within Lat c.south) [
   ]
 ]
 
-area_outcome : (c : Corners) (place text : List ℕ) → AreBox c ⊎ (AreBox c → ⊥) → Outcome (area c place) text
+area_outcome : (c : Corners) (place text : List ℕ) → AreBox c ⊎ (AreBox c → ⊥) → TotalAt (area c place) text
 unfolding area
 area_outcome c place text (inl are) = AsRead (box_of c) text (are, refl, refl)
 area_outcome c place text (inr not) = AsStop causes.BadBox place (not, refl, refl)

@@ -42,7 +42,7 @@ use Rattle.ql_syntax.proofs.TotalTokens.{is_kind, is_true, total_token, total_ru
 -- settings
 format_named_is : (place : List ℕ) (word : FormatWord) → Total (format_named place word)
 format_named_is place (formats.Known format) = total_give (Some format)
-format_named_is place formats.LeftOut = total_refuse _ place
+format_named_is place formats.Unsupported = total_refuse _ place
 format_named_is place formats.Unknown = total_refuse _ place
 
 format_is : Total format
@@ -56,7 +56,7 @@ count_is = total_then _ total_number (λ number. total_then _ (total_count numbe
 setting_named_is : (place : List ℕ) (word : SettingWord) → Total (setting_named place word)
 setting_named_is place setting_words.Format = total_then _ (total_pass kinds.Colon) (λ colon. format_is)
 setting_named_is place setting_words.Count = total_then _ (total_pass kinds.Colon) (λ colon. count_is)
-setting_named_is place setting_words.LeftOut = total_refuse _ place
+setting_named_is place setting_words.Unsupported = total_refuse _ place
 setting_named_is place setting_words.Unknown = total_refuse _ place
 
 setting_is : Total setting
@@ -127,7 +127,7 @@ path_from_is path = total_then _ total_token (λ next. total_choose (is_kind _ _
 selector_named_is : (place : List ℕ) (word : SelectorWord) → Total (selector_named place word)
 selector_named_is place selectors.Ids = id_list_is
 selector_named_is place (selectors.Along path) = path_from_is path
-selector_named_is place selectors.LeftOut = total_refuse _ place
+selector_named_is place selectors.Unsupported = total_refuse _ place
 selector_named_is place selectors.Unknown = total_refuse _ place
 
 word_selector_is : (pick : Pick) (word : Word) → Total (word_selector pick word)
@@ -171,7 +171,7 @@ once_is false place value = total_give value
 out_word_at_is : (seen : OutOptions) (place : List ℕ) (word : OutWord) → Total (out_word_at seen place word)
 out_word_at_is seen place (outs.Mode mode) = once_is (is_some seen.mode) place _
 out_word_at_is seen place outs.Order = once_is seen.ordered place _
-out_word_at_is seen place outs.LeftOut = total_refuse _ place
+out_word_at_is seen place outs.Unsupported = total_refuse _ place
 out_word_at_is seen place outs.Unknown = total_refuse _ place
 
 with_word_is : (seen : OutOptions) (word : Word) → Total (with_word seen word)
@@ -212,7 +212,7 @@ print_is level start place = total_case _ _ (print_at_is start place)
 statement_named_is : (level : Level) (place : List ℕ) (word : StatementWord) → Total (statement_named level place word)
 statement_named_is level place (words.Kind pick) = selection_is pick
 statement_named_is level place words.Print = print_is level _ place
-statement_named_is level place words.LeftOut = total_refuse _ place
+statement_named_is level place words.Unsupported = total_refuse _ place
 statement_named_is level place words.Unknown = total_refuse _ place
 
 word_statement_is : (level : Level) (word : Word) → Total (word_statement level word)
@@ -222,7 +222,7 @@ word_statement_is level word = total_case _ _ (statement_named_is level word.pla
 set_named_is : (level : Level) (start place : List ℕ) (word : StatementWord) → Total (set_statement_named level start place word)
 set_named_is level start place (words.Kind pick) = total_refuse _ place
 set_named_is level start place words.Print = print_is level start place
-set_named_is level start place words.LeftOut = total_refuse _ place
+set_named_is level start place words.Unsupported = total_refuse _ place
 set_named_is level start place words.Unknown = total_refuse _ place
 
 set_word_is : (level : Level) (start : List ℕ) (word : Word) → Total (set_word_statement level start word)

@@ -11,7 +11,7 @@ use Rattle.ql_syntax.specs.Words.{begins_with}
 use Rattle.ql_syntax.specs.declared.cause.QlCause.{QlCause}
 use Rattle.ql_syntax.specs.declared.cause.QlCause.TheVariants as causes
 use Rattle.ql_syntax.proofs.QuotedLemmas.{passes_none, passes_more, passes_one, spelling_shorter}
-use Rattle.ql_syntax.proofs.TotalLemmas.{Outcome, AsRead, AsStop}
+use Rattle.ql_syntax.proofs.TotalLemmas.{TotalAt, AsRead, AsStop}
 use Rattle.ql_syntax.proofs.TotalTokens.{SomeDigits, digits_at, same_number, is_true}
 
 data After (after : List ℕ) : Type 0 where
@@ -105,12 +105,12 @@ module _ (text : List ℕ) (quote : ℕ) where
   scan_at (suc n) [] few = here text quote [] causes.Unclosed text (AtEnd refl refl refl)
   scan_at (suc n) (b ∷ s) few = at_byte n (scan_at n) b s few (same_number b quote) (same_number b 92) (same_number b 0)
 
-scanned : (quote : ℕ) (inside : List ℕ) → is_quote quote ≡ true → Scan (quote ∷ inside) quote inside → Outcome text_here (quote ∷ inside)
+scanned : (quote : ℕ) (inside : List ℕ) → is_quote quote ≡ true → Scan (quote ∷ inside) quote inside → TotalAt text_here (quote ∷ inside)
 unfolding text_here
 scanned quote inside is (Found rest bytes passes) = AsRead bytes rest (record { quote = quote; inside = inside; opens = refl; is_quote = is; passes = passes })
 scanned quote inside is (Stuck place bytes cause at passes stops) = AsStop cause at (record { quote = quote; inside = inside; place = place; bytes = bytes; opens = refl; is_quote = is; passes = passes; stops = stops })
 
 -- where a quote comes first
-pub text_at : (text : List ℕ) → begins_with is_quote text ≡ true → Outcome text_here text
+pub text_at : (text : List ℕ) → begins_with is_quote text ≡ true → TotalAt text_here text
 text_at [] none = absurd (let bad : false ≡ true = none in cc)
 text_at (quote ∷ inside) is = scanned quote inside is (scan_at (quote ∷ inside) quote (suc (length inside)) inside (omega arith))

@@ -18,7 +18,7 @@ use Rattle.ql_syntax.specs.Words.{IsRun, begins_with, is_run_byte, is_word_start
 use Rattle.ql_syntax.specs.declared.cause.QlCause.TheVariants as causes
 use Rattle.ql_syntax.specs.declared.token_kind.TokenKind.{TokenKind}
 use Rattle.ql_syntax.specs.declared.token_kind.TokenKind.TheVariants as kinds
-use Rattle.ql_syntax.proofs.TotalLemmas.{Outcome, AsRead, AsStop, Total, total_give, total_unexpected, total_from, total_then, total_choose}
+use Rattle.ql_syntax.proofs.TotalLemmas.{TotalAt, AsRead, AsStop, Total, total_give, total_unexpected, total_from, total_then, total_choose}
 
 -- punctuation is one or another
 number_of : TokenKind → ℕ
@@ -106,7 +106,7 @@ is_true true = inl refl
 is_true false = inr (λ e. let bad : false ≡ true = e in cc)
 
 -- what comes next
-token_at : (text : List ℕ) (end : GapEnd) → gap Between text ≡ end → Outcome next_token text
+token_at : (text : List ℕ) (end : GapEnd) → gap Between text ≡ end → TotalAt next_token text
 unfolding next_token
 token_at text (After place) e = AsRead (record { kind = token_kind_at place; place = place }) (drop (punctuation_len (token_kind_at place)) place) (record { after_gap = e; kind_is = refl; rest_is = refl })
 token_at text (Open at) e = AsStop causes.Unclosed at (refl, e)
@@ -140,12 +140,12 @@ pub total_run : Total run_here
 unfolding run_here
 total_run = record { at = λ text. let found = run_at text in AsRead found.run found.rest found.is }
 
-name_from : (dot : Next) (b : ℕ) (s : List ℕ) (test : Bool) → is_word_start b ≡ test → Outcome (name_after dot) (b ∷ s)
+name_from : (dot : Next) (b : ℕ) (s : List ℕ) (test : Bool) → is_word_start b ≡ test → TotalAt (name_after dot) (b ∷ s)
 unfolding name_after
 name_from dot b s true e = let found = run_at s in AsRead (b ∷ found.run) found.rest (record { run = longer b s found.run found.rest (a_word_byte b e) found.is; start = e })
 name_from dot b s false e = AsStop causes.UnexpectedCharacter dot.place (e, (refl, refl))
 
-name_at : (dot : Next) (text : List ℕ) → Outcome (name_after dot) text
+name_at : (dot : Next) (text : List ℕ) → TotalAt (name_after dot) text
 unfolding name_after
 name_at dot [] = AsStop causes.UnexpectedEnd [] (refl, (refl, refl))
 name_at dot (b ∷ s) = name_from dot b s (is_word_start b) refl
@@ -176,13 +176,13 @@ begins_otherwise : (rest : List ℕ) → ((b : ℕ) (s : List ℕ) → rest ≡ 
 begins_otherwise [] stop = tt
 begins_otherwise (b ∷ s) stop = stop b s refl
 
-misfit_at : (place : List ℕ) → (text : List ℕ) → ((cause : QlCause) → IsMisfit place cause → IsNoNumber text cause place) → Outcome number_here text
+misfit_at : (place : List ℕ) → (text : List ℕ) → ((cause : QlCause) → IsMisfit place cause → IsNoNumber text cause place) → TotalAt number_here text
 unfolding number_here
 misfit_at [] text stops = AsStop causes.UnexpectedEnd [] (stops causes.UnexpectedEnd refl)
 misfit_at (b ∷ s) text stops = AsStop causes.UnexpectedCharacter (b ∷ s) (stops causes.UnexpectedCharacter refl)
 
 module _ (text unsigned : List ℕ) (negative : Bool) (parts : text ≡ sign negative ++ unsigned) (plain : negative ≡ false → begins_with is_minus unsigned ≡ false) where
-  with_fraction : (whole after digits rest : List ℕ) → IsDigits whole → unsigned ≡ whole ++ (46 ∷ after) → after ≡ digits ++ rest → IsDigits digits → BeginsOtherwise rest → Outcome number_here text
+  with_fraction : (whole after digits rest : List ℕ) → IsDigits whole → unsigned ≡ whole ++ (46 ∷ after) → after ≡ digits ++ rest → IsDigits digits → BeginsOtherwise rest → TotalAt number_here text
   unfolding number_here
   with_fraction whole after digits rest all is split some stop =
       AsRead (record { negative = negative; whole = whole; fraction = Some digits }) rest (record {
@@ -192,7 +192,7 @@ module _ (text unsigned : List ℕ) (negative : Bool) (parts : text ≡ sign neg
         lone_point = λ e later f. (absurd (cc));
       })
 
-  no_fraction : (whole rest : List ℕ) → IsDigits whole → unsigned ≡ whole ++ rest → BeginsOtherwise rest → ((later : List ℕ) → rest ≡ 46 ∷ later → BeginsOtherwise later) → Outcome number_here text
+  no_fraction : (whole rest : List ℕ) → IsDigits whole → unsigned ≡ whole ++ rest → BeginsOtherwise rest → ((later : List ℕ) → rest ≡ 46 ∷ later → BeginsOtherwise later) → TotalAt number_here text
   unfolding number_here
   no_fraction whole rest all is stop none =
       AsRead (record { negative = negative; whole = whole; fraction = None }) rest (record {
@@ -202,7 +202,7 @@ module _ (text unsigned : List ℕ) (negative : Bool) (parts : text ≡ sign neg
         lone_point = λ e. none;
       })
 
-  after_point : (whole after : List ℕ) → IsDigits whole → unsigned ≡ whole ++ (46 ∷ after) → (found : SomeDigits 10 after) → (ds : List ℕ) → found.digits ≡ ds → Outcome number_here text
+  after_point : (whole after : List ℕ) → IsDigits whole → unsigned ≡ whole ++ (46 ∷ after) → (found : SomeDigits 10 after) → (ds : List ℕ) → found.digits ≡ ds → TotalAt number_here text
   after_point whole after all is found [] none =
       no_fraction whole (46 ∷ after) all is (lit≤ tt)
       (λ later e. (let same : after ≡ later = cc in
@@ -210,14 +210,14 @@ module _ (text unsigned : List ℕ) (negative : Bool) (parts : text ≡ sign neg
   after_point whole after all is found (d ∷ ds) some =
       with_fraction whole after found.digits found.rest all is found.parts ((λ e. (let bad : d ∷ ds ≡ [] = sym some ∙ e in cc)), found.each) (begins_otherwise found.rest found.stop)
 
-  after_whole : (whole rest : List ℕ) → IsDigits whole → unsigned ≡ whole ++ rest → BeginsOtherwise rest → Outcome number_here text
+  after_whole : (whole rest : List ℕ) → IsDigits whole → unsigned ≡ whole ++ rest → BeginsOtherwise rest → TotalAt number_here text
   after_whole whole [] all is stop = no_fraction whole [] all is stop (λ later e. absurd (cc))
   after_whole whole (b ∷ s) all is stop = elim (same_number b 46) [
     | inl point ↦ after_point whole s all (is ∙ ap (λ (x : ℕ). whole ++ x ∷ s) point) (digits_at 10 s) (digits_at 10 s).digits refl
     | inr other ↦ no_fraction whole (b ∷ s) all is stop (λ later e. absurd (let same : b ≡ 46 = cc in other same))
   ]
 
-  number_of_parts : (found : SomeDigits 10 unsigned) → (ds : List ℕ) → found.digits ≡ ds → Outcome number_here text
+  number_of_parts : (found : SomeDigits 10 unsigned) → (ds : List ℕ) → found.digits ≡ ds → TotalAt number_here text
   number_of_parts found [] none =
       misfit_at unsigned text (λ cause misfit. record {
         negative = negative;
@@ -229,7 +229,7 @@ module _ (text unsigned : List ℕ) (negative : Bool) (parts : text ≡ sign neg
   number_of_parts found (d ∷ ds) some =
       after_whole found.digits found.rest ((λ e. (let bad : d ∷ ds ≡ [] = sym some ∙ e in cc)), found.each) found.parts (begins_otherwise found.rest found.stop)
 
-number_place : (text : List ℕ) → Outcome number_here text
+number_place : (text : List ℕ) → TotalAt number_here text
 number_place [] = number_of_parts [] [] false refl (λ e. refl) (digits_at 10 []) (digits_at 10 []).digits refl
 number_place (b ∷ s) = elim (same_number b 45) [
   | inl minus ↦ number_of_parts (b ∷ s) s true (ap (λ (x : ℕ). x ∷ s) minus) (λ e. (absurd (cc))) (digits_at 10 s) (digits_at 10 s).digits refl

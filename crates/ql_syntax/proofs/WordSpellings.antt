@@ -43,24 +43,24 @@ anything text rest = ⊤
 abbrev pub statement_spelled : StatementWord → Spelling
 statement_spelled (statements.Kind pick) = grammar.kind pick
 statement_spelled statements.Print = word "out"
-statement_spelled statements.LeftOut = anything
+statement_spelled statements.Unsupported = anything
 statement_spelled statements.Unknown = anything
 
 abbrev pub out_spelled : OutWord → Spelling
 out_spelled (outs.Mode mode) = grammar.mode_word mode
 out_spelled outs.Order = word "asc" or word "qt"
-out_spelled outs.LeftOut = anything
+out_spelled outs.Unsupported = anything
 out_spelled outs.Unknown = anything
 
 abbrev pub setting_spelled : SettingWord → Spelling
 setting_spelled settings.Format = word "out"
 setting_spelled settings.Count = word "timeout" or word "maxsize"
-setting_spelled settings.LeftOut = anything
+setting_spelled settings.Unsupported = anything
 setting_spelled settings.Unknown = anything
 
 abbrev pub format_spelled : FormatWord → Spelling
 format_spelled (formats.Known format) = format_word format
-format_spelled formats.LeftOut = anything
+format_spelled formats.Unsupported = anything
 format_spelled formats.Unknown = anything
 
 abbrev path_spelled : Option Path → Spelling
@@ -70,7 +70,7 @@ path_spelled (Some path) = grammar.path path
 abbrev pub selector_spelled : SelectorWord → Spelling
 selector_spelled selectors.Ids = word "id"
 selector_spelled (selectors.Along path) = grammar.path path
-selector_spelled selectors.LeftOut = anything
+selector_spelled selectors.Unsupported = anything
 selector_spelled selectors.Unknown = anything
 
 module _ {text rest : List ℕ} (w : List ℕ) (spelled : IsWordOf (λ (v : List ℕ). v ≡ w) text rest) where
@@ -98,9 +98,9 @@ module _ {text rest : List ℕ} (w : List ℕ) (spelled : IsWordOf (λ (v : List
       (by_test At_known (bytes_eq w (codes "nwr")) (Some (statements.Kind picks.Nwr)) _ (is_said (codes "nwr"))
       (by_test At_known (bytes_eq w (codes "out")) (Some statements.Print) None (is_said (codes "out")) tt))))
 
-  or_other : (found : Option StatementWord) → At_known found → At_statement (unwrap_or found (cond (statement_words.is_left_out w) statements.LeftOut statements.Unknown))
+  or_other : (found : Option StatementWord) → At_known found → At_statement (unwrap_or found (cond (statement_words.is_unsupported w) statements.Unsupported statements.Unknown))
   or_other (Some case) is = is
-  or_other None is = by_test At_statement (statement_words.is_left_out w) statements.LeftOut statements.Unknown (λ t. tt) tt
+  or_other None is = by_test At_statement (statement_words.is_unsupported w) statements.Unsupported statements.Unknown (λ t. tt) tt
 
   statement_said : At_statement (statement_word w)
   statement_said = or_other (known_word w) known_said
@@ -113,7 +113,7 @@ module _ {text rest : List ℕ} (w : List ℕ) (spelled : IsWordOf (λ (v : List
 
   out_said : At_out (out_word w)
   out_said =
-      by_test At_out (out_words.is_left_out w) outs.LeftOut _ (λ t. tt)
+      by_test At_out (out_words.is_unsupported w) outs.Unsupported _ (λ t. tt)
       (by_test At_out (bytes_eq w (codes "ids")) (outs.Mode modes.Ids) _ (is_said (codes "ids"))
       (by_test At_out (bytes_eq w (codes "tags")) (outs.Mode modes.Tags) _ (is_said (codes "tags"))
       (by_test At_out (bytes_eq w (codes "skel")) (outs.Mode modes.Skel) _ (is_said (codes "skel"))
@@ -130,7 +130,7 @@ module _ {text rest : List ℕ} (w : List ℕ) (spelled : IsWordOf (λ (v : List
 
   setting_said : At_setting (setting_of w)
   setting_said =
-      by_test At_setting _ settings.LeftOut _ (λ t. tt)
+      by_test At_setting _ settings.Unsupported _ (λ t. tt)
       (by_test At_setting (bytes_eq w (codes "out")) settings.Format _ (is_said (codes "out"))
       (by_test At_setting (bytes_eq w (codes "timeout") || bytes_eq w (codes "maxsize")) settings.Count settings.Unknown (is_either _ _ (λ t. inl (is_said (codes "timeout") t)) (λ t. inr (is_said (codes "maxsize") t)))
       tt))
@@ -143,7 +143,7 @@ module _ {text rest : List ℕ} (w : List ℕ) (spelled : IsWordOf (λ (v : List
 
   format_said : At_format (format_of w)
   format_said =
-      by_test At_format _ formats.LeftOut _ (λ t. tt)
+      by_test At_format _ formats.Unsupported _ (λ t. tt)
       (by_test At_format (bytes_eq w (codes "json")) (formats.Known named.Json) _ (is_said (codes "json"))
       (by_test At_format (bytes_eq w (codes "xml")) (formats.Known named.Xml) formats.Unknown (is_said (codes "xml")) tt))
 
@@ -166,12 +166,12 @@ module _ {text rest : List ℕ} (w : List ℕ) (spelled : IsWordOf (λ (v : List
 
   along_said : (pick : Pick) (found : Option Path) → At_path found → At_selector (path_word pick found)
   along_said pick None is = tt
-  along_said pick (Some path) is = by_test At_selector (allows pick path) (selectors.Along path) selectors.LeftOut (λ t. is) tt
+  along_said pick (Some path) is = by_test At_selector (allows pick path) (selectors.Along path) selectors.Unsupported (λ t. is) tt
 
   selector_said : (pick : Pick) → At_selector (selector_word pick w)
   selector_said pick =
       by_test At_selector (bytes_eq w (codes "id")) selectors.Ids _ (is_said (codes "id"))
-      (by_test At_selector (selector_words.is_left_out w) selectors.LeftOut _ (λ t. tt) (along_said pick (path_of w) path_said))
+      (by_test At_selector (selector_words.is_unsupported w) selectors.Unsupported _ (λ t. tt) (along_said pick (path_of w) path_said))
 
   pub selector_is : (pick : Pick) (case : SelectorWord) → selector_word pick w ≡ case → selector_spelled case text rest
   selector_is pick case is = subst At_selector is (selector_said pick)
@@ -215,7 +215,7 @@ pub ids_token : (pick : Pick) {text rest : List ℕ} → word "id" text rest →
 ids_token pick w = word_token (codes "id") w refl refl
 
 allowed : (pick : Pick) (path : Path) → allows pick path ≡ true → path_word pick (Some path) ≡ selectors.Along path
-allowed pick path is = ap (λ (test : Bool). cond test (selectors.Along path) selectors.LeftOut) is
+allowed pick path is = ap (λ (test : Bool). cond test (selectors.Along path) selectors.Unsupported) is
 
 pub path_token : (pick : Pick) (path : Path) {text rest : List ℕ} → allows pick path ≡ true → grammar.path path text rest → IsWordOf (λ (w : List ℕ). selector_word pick w ≡ selectors.Along path) text rest
 path_token pick paths.W is w = word_token (codes "w") w refl (allowed pick paths.W is)

@@ -4,7 +4,7 @@
 use Rattle.std.specs.Prelude.{◌≡◌, ℕ, List}
 use Rattle.osm_model.specs.Boxes.{ExactBox}
 use Rattle.osm_model.specs.Degrees.{Decimal}
-use Rattle.osm_model.specs.Edges.{IsWithin, IsAbove}
+use Rattle.osm_model.specs.Edges.{IsOnAxis, IsGreater}
 use Rattle.osm_model.specs.declared.axis.Axis.TheVariants.{Lon, Lat}
 use Rattle.ql_syntax.specs.Rules.{Rule}
 use Rattle.ql_syntax.specs.declared.cause.QlCause.TheVariants as causes
@@ -18,11 +18,11 @@ pub record Corners : Type 0 where
 
 -- each is in the range of its axis, and south isn't above north
 pub record AreBox (corners : Corners) : Type 0 where
-  pub south : IsWithin Lat corners.south
-  pub west : IsWithin Lon corners.west
-  pub north : IsWithin Lat corners.north
-  pub east : IsWithin Lon corners.east
-  pub upright : ¬ (IsAbove corners.south corners.north)
+  pub south : IsOnAxis Lat corners.south
+  pub west : IsOnAxis Lon corners.west
+  pub north : IsOnAxis Lat corners.north
+  pub east : IsOnAxis Lon corners.east
+  pub upright : ¬ (IsGreater corners.south corners.north)
 
 -- the box with these corners
 abbrev pub box_of : Corners → ExactBox

@@ -8,12 +8,12 @@ use Rattle.ql_syntax.specs.declared.out_word.OutWord.{OutWord}
 use Rattle.ql_syntax.specs.declared.out_word.OutWord.TheVariants as words
 
 -- the profile leaves out what this word asks for
-abbrev pub is_left_out : List ℕ → Bool
-is_left_out word = is_one_of word (codes "count" ∷ codes "geom" ∷ codes "center" ∷ codes "bb" ∷ codes "noids" ∷ [])
+abbrev pub is_unsupported : List ℕ → Bool
+is_unsupported word = is_one_of word (codes "count" ∷ codes "geom" ∷ codes "center" ∷ codes "bb" ∷ codes "noids" ∷ [])
 
 abbrev pub out_word : List ℕ → OutWord
 out_word word =
-    if is_left_out word then words.LeftOut
+    if is_unsupported word then words.Unsupported
     else if bytes_eq word (codes "ids") then words.Mode modes.Ids
     else if bytes_eq word (codes "tags") then words.Mode modes.Tags
     else if bytes_eq word (codes "skel") then words.Mode modes.Skel

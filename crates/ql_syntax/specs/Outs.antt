@@ -21,7 +21,7 @@ once false place value = give value
 abbrev pub out_word_at : OutOptions → List ℕ → OutWord → Rule OutOptions
 out_word_at seen place (words.Mode mode) = once (is_some seen.mode) place (record { mode = Some mode; ordered = seen.ordered; limit = seen.limit })
 out_word_at seen place words.Order = once seen.ordered place (record { mode = seen.mode; ordered = true; limit = seen.limit })
-out_word_at seen place words.LeftOut = refuse causes.OutsideProfile place
+out_word_at seen place words.Unsupported = refuse causes.Unsupported place
 out_word_at seen place words.Unknown = refuse causes.UnexpectedWord place
 
 -- the options with this word too
@@ -47,7 +47,7 @@ out_round seen = do
         number ← number_at next
         more ← with_number seen number
         give (More more))
-      (choose (next.kind ≡ kinds.OpenParenthesis) (refuse causes.OutsideProfile next.place)
+      (choose (next.kind ≡ kinds.OpenParenthesis) (refuse causes.Unsupported next.place)
       (choose (next.kind ≡ kinds.Semicolon) (give (Done seen)) (unexpected next))))
 
 -- all that follows `out`, and its `;`

@@ -19,18 +19,18 @@ path_of word =
     else None
 
 -- the profile leaves out the filter that this word begins
-abbrev pub is_left_out : List ℕ → Bool
-is_left_out word = is_one_of word
+abbrev pub is_unsupported : List ℕ → Bool
+is_unsupported word = is_one_of word
     (codes "around" ∷ codes "poly" ∷ codes "changed" ∷ codes "newer" ∷ codes "user" ∷ codes "uid"
     ∷ codes "area" ∷ codes "pivot" ∷ codes "if" ∷ [])
 
 -- a path that the kind lacks is left out too
 abbrev pub path_word : Pick → Option Path → SelectorWord
 path_word pick None = words.Unknown
-path_word pick (Some path) = if allows pick path then words.Along path else words.LeftOut
+path_word pick (Some path) = if allows pick path then words.Along path else words.Unsupported
 
 abbrev pub selector_word : Pick → List ℕ → SelectorWord
 selector_word pick word =
     if bytes_eq word (codes "id") then words.Ids
-    else if is_left_out word then words.LeftOut
+    else if is_unsupported word then words.Unsupported
     else path_word pick (path_of word)

@@ -43,7 +43,7 @@ unfoldable pub path_close : Rule (Unit {0})
 path_close = do
   next ← next_token
   choose (next.kind ≡ kinds.CloseParenthesis) (give tt)
-      (choose (next.kind ≡ kinds.Colon) (refuse causes.OutsideProfile next.place) (unexpected next))
+      (choose (next.kind ≡ kinds.Colon) (refuse causes.Unsupported next.place) (unexpected next))
 
 -- the set that a path leads from, and the `)`
 unfoldable pub path_from : Path → Rule Filter
@@ -61,7 +61,7 @@ path_from path = do
 abbrev pub selector_named : List ℕ → SelectorWord → Rule Filter
 selector_named place words.Ids = id_list
 selector_named place (words.Along path) = path_from path
-selector_named place words.LeftOut = refuse causes.OutsideProfile place
+selector_named place words.Unsupported = refuse causes.Unsupported place
 selector_named place words.Unknown = refuse causes.UnexpectedWord place
 
 unfoldable pub word_selector : Pick → Word → Rule Filter
@@ -87,7 +87,7 @@ box_after south = do
 unfoldable pub number_selector : Pick → Number → Rule Filter
 number_selector pick number = do
   next ← next_token
-  choose (next.kind ≡ kinds.Comma) (choose (takes_boxes pick ≡ true) (box_after number) (refuse causes.OutsideProfile number.place))
+  choose (next.kind ≡ kinds.Comma) (choose (takes_boxes pick ≡ true) (box_after number) (refuse causes.Unsupported number.place))
       (choose (next.kind ≡ kinds.CloseParenthesis) (do
         id ← id_of number.number number.place
         give (Ids (id ∷ [])))

@@ -10,23 +10,23 @@ use Rattle.ql_syntax.specs.declared.setting_word.FormatWord.{FormatWord}
 use Rattle.ql_syntax.specs.declared.setting_word.FormatWord.TheVariants as formats
 
 -- the profile leaves out the setting that this word begins
-abbrev pub is_left_out_setting : List ℕ → Bool
-is_left_out_setting word = is_one_of word (codes "bbox" ∷ codes "date" ∷ codes "diff" ∷ codes "adiff" ∷ [])
+abbrev pub is_unsupported_setting : List ℕ → Bool
+is_unsupported_setting word = is_one_of word (codes "bbox" ∷ codes "date" ∷ codes "diff" ∷ codes "adiff" ∷ [])
 
 abbrev pub setting_of : List ℕ → SettingWord
 setting_of word =
-    if is_left_out_setting word then settings.LeftOut
+    if is_unsupported_setting word then settings.Unsupported
     else if bytes_eq word (codes "out") then settings.Format
     else if bytes_eq word (codes "timeout") || bytes_eq word (codes "maxsize") then settings.Count
     else settings.Unknown
 
 -- the profile leaves out the format with this name
-abbrev pub is_left_out_format : List ℕ → Bool
-is_left_out_format word = is_one_of word (codes "csv" ∷ codes "custom" ∷ codes "popup" ∷ [])
+abbrev pub is_unsupported_format : List ℕ → Bool
+is_unsupported_format word = is_one_of word (codes "csv" ∷ codes "custom" ∷ codes "popup" ∷ [])
 
 abbrev pub format_of : List ℕ → FormatWord
 format_of word =
-    if is_left_out_format word then formats.LeftOut
+    if is_unsupported_format word then formats.Unsupported
     else if bytes_eq word (codes "json") then formats.Known named.Json
     else if bytes_eq word (codes "xml") then formats.Known named.Xml
     else formats.Unknown

@@ -18,7 +18,7 @@ use Rattle.ql_syntax.specs.declared.token_kind.TokenKind.TheVariants as kinds
 
 abbrev pub format_named : List ℕ → FormatWord → Rule (Option Format)
 format_named place (formats.Known format) = give (Some format)
-format_named place formats.LeftOut = refuse causes.OutsideProfile place
+format_named place formats.Unsupported = refuse causes.Unsupported place
 format_named place formats.Unknown = refuse causes.UnexpectedWord place
 
 -- the word of a format
@@ -42,7 +42,7 @@ setting_named place words.Format = do
 setting_named place words.Count = do
   colon ← pass kinds.Colon
   count
-setting_named place words.LeftOut = refuse causes.OutsideProfile place
+setting_named place words.Unsupported = refuse causes.Unsupported place
 setting_named place words.Unknown = refuse causes.UnexpectedWord place
 
 unfoldable pub setting_value : Word → Rule (Option Format)

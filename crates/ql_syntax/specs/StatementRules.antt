@@ -51,7 +51,7 @@ out_of start = do
 -- an out statement may stand at the top level alone
 abbrev pub print_at : List ℕ → List ℕ → Level → Rule Statement
 print_at start place levels.Top = out_of start
-print_at start place levels.Inner = refuse causes.OutsideProfile place
+print_at start place levels.Inner = refuse causes.Unsupported place
 
 unfoldable pub print : Level → List ℕ → List ℕ → Rule Statement
 print level start place = by_case level (print_at start place)
@@ -60,7 +60,7 @@ print level start place = by_case level (print_at start place)
 abbrev pub statement_named : Level → List ℕ → StatementWord → Rule Statement
 statement_named level place (words.Kind pick) = selection pick
 statement_named level place words.Print = print level (codes "_") place
-statement_named level place words.LeftOut = refuse causes.OutsideProfile place
+statement_named level place words.Unsupported = refuse causes.Unsupported place
 statement_named level place words.Unknown = refuse causes.UnexpectedWord place
 
 unfoldable pub word_statement : Level → Word → Rule Statement
@@ -70,7 +70,7 @@ word_statement level word = by_case (statement_word word.word) (statement_named 
 abbrev pub set_statement_named : Level → List ℕ → List ℕ → StatementWord → Rule Statement
 set_statement_named level start place (words.Kind pick) = refuse causes.UnexpectedWord place
 set_statement_named level start place words.Print = print level start place
-set_statement_named level start place words.LeftOut = refuse causes.OutsideProfile place
+set_statement_named level start place words.Unsupported = refuse causes.Unsupported place
 set_statement_named level start place words.Unknown = refuse causes.UnexpectedWord place
 
 unfoldable pub set_word_statement : Level → List ℕ → Word → Rule Statement

@@ -9,8 +9,8 @@ use Rattle.ql_syntax.specs.declared.statement_word.StatementWord.{StatementWord}
 use Rattle.ql_syntax.specs.declared.statement_word.StatementWord.TheVariants as words
 
 -- block statements, standalone queries, and kinds of query statements that the profile leaves out
-abbrev pub is_left_out : List ℕ → Bool
-is_left_out word = is_one_of word
+abbrev pub is_unsupported : List ℕ → Bool
+is_unsupported word = is_one_of word
     (codes "foreach" ∷ codes "for" ∷ codes "if" ∷ codes "complete" ∷ codes "retro" ∷ codes "compare"
     ∷ codes "make" ∷ codes "convert" ∷ codes "map_to_area" ∷ codes "is_in" ∷ codes "timeline" ∷ codes "local"
     ∷ codes "area" ∷ codes "derived" ∷ codes "nw" ∷ codes "nr" ∷ codes "wr" ∷ [])
@@ -25,4 +25,4 @@ known_word word =
     else None
 
 abbrev pub statement_word : List ℕ → StatementWord
-statement_word word = unwrap_or (known_word word) (if is_left_out word then words.LeftOut else words.Unknown)
+statement_word word = unwrap_or (known_word word) (if is_unsupported word then words.Unsupported else words.Unknown)

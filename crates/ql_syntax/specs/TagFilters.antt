@@ -16,8 +16,8 @@ use Rattle.ql_syntax.specs.declared.token_kind.TokenKind.TheVariants as kinds
 -- why a token can't stand where it does inside the `[ ]`: `~` and `!~` ask for a pattern, which the profile
 -- leaves out
 abbrev pub cause_in_tag : TokenKind → QlCause
-cause_in_tag kinds.Tilde = causes.OutsideProfile
-cause_in_tag kinds.NotTilde = causes.OutsideProfile
+cause_in_tag kinds.Tilde = causes.Unsupported
+cause_in_tag kinds.NotTilde = causes.Unsupported
 cause_in_tag kind = unexpected_cause kind
 
 unfoldable pub not_in_tag : {A : Type 0} → Next → Rule A

@@ -22,7 +22,7 @@ pub enum QlCause {
     NumberOutOfRange,
     /// What the Overpass query language has, and this project's profile of it has not. At its first
     /// byte.
-    OutsideProfile,
+    Unsupported,
     /// A 33rd `(` of unions and differences open at once. At that `(`.
     TooDeep,
     /// The text has more than 65,536 bytes. At byte 65,536.
@@ -46,7 +46,7 @@ impl fmt::Display for QlCause {
             QlCause::BadEscape => "Q4",
             QlCause::UnexpectedWord => "Q5",
             QlCause::NumberOutOfRange => "Q6",
-            QlCause::OutsideProfile => "Q7",
+            QlCause::Unsupported => "Q7",
             QlCause::TooDeep => "Q8",
             QlCause::TooLong => "Q9",
             QlCause::BadBox => "Q10",

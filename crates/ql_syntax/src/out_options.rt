@@ -29,7 +29,7 @@ pub(crate) struct OutOptions {
 /// The options after `out`, and what is left after their `;`.
 ///
 /// `UnexpectedWord` at a second mode, order or number, and at a word that is none of them;
-/// `OutsideProfile` at a word that the profile leaves out, and at a `(`.
+/// `Unsupported` at a word that the profile leaves out, and at a `(`.
 pub(crate) fn read_out_options(text: &[u8]) -> Result<(OutOptions, &[u8]), SyntaxError<'_>>
     ensures { Keeps out_options the_options text.now result }
 {
@@ -70,7 +70,7 @@ fn read_round<'a>(
             let more = seen.with_number(number)?;
             Ok((Round::More, more, number.number.rest))
         }
-        TokenKind::OpenParenthesis => { Err(SyntaxError::at(QlCause::OutsideProfile, token.place)) }
+        TokenKind::OpenParenthesis => { Err(SyntaxError::at(QlCause::Unsupported, token.place)) }
         TokenKind::Semicolon => Ok((Round::Done, seen, token.rest)),
         _ => Err(token.unexpected()),
     }
@@ -99,7 +99,7 @@ impl OutOptions {
                     ..self
                 },
             ),
-            OutWord::LeftOut => Err(SyntaxError::at(QlCause::OutsideProfile, word.place)),
+            OutWord::Unsupported => Err(SyntaxError::at(QlCause::Unsupported, word.place)),
             OutWord::Unknown => Err(SyntaxError::at(QlCause::UnexpectedWord, word.place)),
         }
     }

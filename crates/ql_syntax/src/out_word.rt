@@ -1,7 +1,7 @@
 //! The words after `out`.
 
 ghost use Rattle.std.specs.Prelude.{◌≡◌};
-ghost use Rattle.ql_syntax.specs.OutWords.{is_left_out, out_word};
+ghost use Rattle.ql_syntax.specs.OutWords.{is_unsupported, out_word};
 
 use osm_model::OutMode;
 
@@ -13,7 +13,7 @@ pub(crate) enum OutWord {
     /// An order, which has no effect: `asc` or `qt`.
     Order,
     /// What the profile leaves out.
-    LeftOut,
+    Unsupported,
     /// Nothing.
     Unknown,
 }
@@ -23,7 +23,7 @@ pub(crate) fn out_word(word: &[u8]) -> OutWord
     ensures { result ≡ out_word word.now }
 {
     match word {
-        _ if is_left_out(word) => OutWord::LeftOut,
+        _ if is_unsupported(word) => OutWord::Unsupported,
         b"ids" => OutWord::Mode(OutMode::Ids),
         b"tags" => OutWord::Mode(OutMode::Tags),
         b"skel" => OutWord::Mode(OutMode::Skel),
@@ -35,8 +35,8 @@ pub(crate) fn out_word(word: &[u8]) -> OutWord
 }
 
 /// Whether the profile leaves out what this word asks for.
-fn is_left_out(word: &[u8]) -> bool
-    ensures { result ≡ is_left_out word.now }
+fn is_unsupported(word: &[u8]) -> bool
+    ensures { result ≡ is_unsupported word.now }
 {
     [b"count".as_slice(), b"geom", b"center", b"bb", b"noids"].contains(&word)
 }

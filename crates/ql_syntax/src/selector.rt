@@ -28,7 +28,7 @@ use std::alloc::{AllocError, Global};
 
 /// The filter after its `(`, on objects of this kind, and what is left after its `)`.
 ///
-/// `OutsideProfile` at the word of a filter that the profile leaves out, at a path that the kind lacks, at
+/// `Unsupported` at the word of a filter that the profile leaves out, at a path that the kind lacks, at
 /// a `:` after a path, and at the first number of a box on another kind than nodes; `BadBox` at the first
 /// number of a box with an edge out of its range, or whose south is above its north.
 pub(crate) fn read_selector(
@@ -59,7 +59,7 @@ fn read_word_selector<'a>(
     match selector_word(pick, word.word) {
         SelectorWord::Ids => read_id_list(alloc, word.rest),
         SelectorWord::Along(path) => read_path_from(path, word.rest),
-        SelectorWord::LeftOut => Err(SyntaxError::at(QlCause::OutsideProfile, word.place)),
+        SelectorWord::Unsupported => Err(SyntaxError::at(QlCause::Unsupported, word.place)),
         SelectorWord::Unknown => Err(SyntaxError::at(QlCause::UnexpectedWord, word.place)),
     }
 }
@@ -77,7 +77,7 @@ fn read_number_selector<'a>(
     let token = next_token(number.number.rest)?;
     match token.kind {
         TokenKind::Comma if pick.takes_boxes() => read_box(alloc, number, token.rest),
-        TokenKind::Comma => Err(SyntaxError::at(QlCause::OutsideProfile, number.place)),
+        TokenKind::Comma => Err(SyntaxError::at(QlCause::Unsupported, number.place)),
         TokenKind::CloseParenthesis => {
             let ids = ids_of(alloc, number.id()?)?;
             Ok((Filter::Ids(ids), token.rest))
@@ -180,7 +180,7 @@ fn pass_path_close(text: &[u8]) -> Result<&[u8], SyntaxError<'_>>
     let token = next_token(text)?;
     match token.kind {
         TokenKind::CloseParenthesis => Ok(token.rest),
-        TokenKind::Colon => Err(SyntaxError::at(QlCause::OutsideProfile, token.place)),
+        TokenKind::Colon => Err(SyntaxError::at(QlCause::Unsupported, token.place)),
         _ => Err(token.unexpected()),
     }
 }

@@ -1,7 +1,7 @@
 //! The words that may begin a filter in parentheses.
 
 ghost use Rattle.std.specs.Prelude.{◌≡◌};
-ghost use Rattle.ql_syntax.specs.SelectorWords.{path_of, is_left_out, selector_word};
+ghost use Rattle.ql_syntax.specs.SelectorWords.{path_of, is_unsupported, selector_word};
 
 use crate::path::Path;
 use crate::pick::Pick;
@@ -14,7 +14,7 @@ pub(crate) enum SelectorWord {
     /// A path that the kind allows.
     Along(Path),
     /// What the profile leaves out.
-    LeftOut,
+    Unsupported,
     /// No filter.
     Unknown,
 }
@@ -25,10 +25,10 @@ pub(crate) fn selector_word(pick: Pick, word: &[u8]) -> SelectorWord
 {
     match word {
         b"id" => SelectorWord::Ids,
-        _ if is_left_out(word) => SelectorWord::LeftOut,
+        _ if is_unsupported(word) => SelectorWord::Unsupported,
         _ => match path_of(word) {
             Some(path) if pick.allows(path) => SelectorWord::Along(path),
-            Some(_) => SelectorWord::LeftOut,
+            Some(_) => SelectorWord::Unsupported,
             None => SelectorWord::Unknown,
         },
     }
@@ -49,8 +49,8 @@ fn path_of(word: &[u8]) -> Option<Path>
 }
 
 /// Whether the profile leaves out the filter that this word begins.
-fn is_left_out(word: &[u8]) -> bool
-    ensures { result ≡ is_left_out word.now }
+fn is_unsupported(word: &[u8]) -> bool
+    ensures { result ≡ is_unsupported word.now }
 {
     [
         b"around".as_slice(),

@@ -1,7 +1,7 @@
 //! The words of settings.
 
 ghost use Rattle.std.specs.Prelude.{◌≡◌};
-ghost use Rattle.ql_syntax.specs.SettingWords.{format_of, is_left_out_format, is_left_out_setting, setting_of};
+ghost use Rattle.ql_syntax.specs.SettingWords.{format_of, is_unsupported_format, is_unsupported_setting, setting_of};
 
 use crate::format::Format;
 
@@ -13,7 +13,7 @@ pub(crate) enum SettingWord {
     /// A number: `timeout` or `maxsize`.
     Count,
     /// A setting that the profile leaves out.
-    LeftOut,
+    Unsupported,
     /// No setting.
     Unknown,
 }
@@ -24,7 +24,7 @@ pub(crate) enum FormatWord {
     /// A format: `json` or `xml`.
     Known(Format),
     /// A format that the profile leaves out.
-    LeftOut,
+    Unsupported,
     /// No format.
     Unknown,
 }
@@ -34,7 +34,7 @@ pub(crate) fn setting_of(word: &[u8]) -> SettingWord
     ensures { result ≡ setting_of word.now }
 {
     match word {
-        _ if is_left_out_setting(word) => SettingWord::LeftOut,
+        _ if is_unsupported_setting(word) => SettingWord::Unsupported,
         b"out" => SettingWord::Format,
         b"timeout" | b"maxsize" => SettingWord::Count,
         _ => SettingWord::Unknown,
@@ -42,8 +42,8 @@ pub(crate) fn setting_of(word: &[u8]) -> SettingWord
 }
 
 /// Whether the profile leaves out the setting that this word begins.
-fn is_left_out_setting(word: &[u8]) -> bool
-    ensures { result ≡ is_left_out_setting word.now }
+fn is_unsupported_setting(word: &[u8]) -> bool
+    ensures { result ≡ is_unsupported_setting word.now }
 {
     [b"bbox".as_slice(), b"date", b"diff", b"adiff"].contains(&word)
 }
@@ -53,7 +53,7 @@ pub(crate) fn format_of(word: &[u8]) -> FormatWord
     ensures { result ≡ format_of word.now }
 {
     match word {
-        _ if is_left_out_format(word) => FormatWord::LeftOut,
+        _ if is_unsupported_format(word) => FormatWord::Unsupported,
         b"json" => FormatWord::Known(Format::Json),
         b"xml" => FormatWord::Known(Format::Xml),
         _ => FormatWord::Unknown,
@@ -61,8 +61,8 @@ pub(crate) fn format_of(word: &[u8]) -> FormatWord
 }
 
 /// Whether the profile leaves out the format with this name.
-fn is_left_out_format(word: &[u8]) -> bool
-    ensures { result ≡ is_left_out_format word.now }
+fn is_unsupported_format(word: &[u8]) -> bool
+    ensures { result ≡ is_unsupported_format word.now }
 {
     [b"csv".as_slice(), b"custom", b"popup"].contains(&word)
 }

@@ -39,7 +39,7 @@ pub fn asked_format(text: &[u8]) -> Option<Format>
 
 /// The format that the settings before the first statement ask for, and what is left after them, where there are some.
 ///
-/// `OutsideProfile` at the word of a setting or of a format that the profile leaves out.
+/// `Unsupported` at the word of a setting or of a format that the profile leaves out.
 pub(crate) fn read_settings(text: &[u8]) -> Result<(Option<Format>, &[u8]), SyntaxError<'_>>
     ensures { Keeps settings the_format text.now result }
 {
@@ -103,7 +103,7 @@ fn read_value(name: WordSpot<'_>) -> Result<(Option<Format>, &[u8]), SyntaxError
     match setting_of(name.word) {
         SettingWord::Format => read_format(pass(name.rest, TokenKind::Colon)?),
         SettingWord::Count => read_count(pass(name.rest, TokenKind::Colon)?),
-        SettingWord::LeftOut => Err(SyntaxError::at(QlCause::OutsideProfile, name.place)),
+        SettingWord::Unsupported => Err(SyntaxError::at(QlCause::Unsupported, name.place)),
         SettingWord::Unknown => Err(SyntaxError::at(QlCause::UnexpectedWord, name.place)),
     }
 }
@@ -115,7 +115,7 @@ fn read_format(text: &[u8]) -> Result<(Option<Format>, &[u8]), SyntaxError<'_>>
     let found = next_word(text)?;
     match format_of(found.word) {
         FormatWord::Known(format) => Ok((Some(format), found.rest)),
-        FormatWord::LeftOut => Err(SyntaxError::at(QlCause::OutsideProfile, found.place)),
+        FormatWord::Unsupported => Err(SyntaxError::at(QlCause::Unsupported, found.place)),
         FormatWord::Unknown => Err(SyntaxError::at(QlCause::UnexpectedWord, found.place)),
     }
 }

@@ -1,7 +1,7 @@
 //! The words that may begin a statement.
 
 ghost use Rattle.std.specs.Prelude.{◌≡◌};
-ghost use Rattle.ql_syntax.specs.StatementWords.{statement_word, known_word, is_left_out};
+ghost use Rattle.ql_syntax.specs.StatementWords.{statement_word, known_word, is_unsupported};
 
 use crate::pick::Pick;
 
@@ -13,7 +13,7 @@ pub(crate) enum StatementWord {
     /// An out statement: `out`.
     Print,
     /// A statement that the profile leaves out.
-    LeftOut,
+    Unsupported,
     /// No statement.
     Unknown,
 }
@@ -24,7 +24,7 @@ pub(crate) fn statement_word(word: &[u8]) -> StatementWord
 {
     match known_word(word) {
         Some(known) => known,
-        None if is_left_out(word) => StatementWord::LeftOut,
+        None if is_unsupported(word) => StatementWord::Unsupported,
         None => StatementWord::Unknown,
     }
 }
@@ -45,8 +45,8 @@ fn known_word(word: &[u8]) -> Option<StatementWord>
 
 /// Whether the profile leaves out the statement that this word begins: a block statement, a standalone query or a kind of
 /// query statement.
-fn is_left_out(word: &[u8]) -> bool
-    ensures { result ≡ is_left_out word.now }
+fn is_unsupported(word: &[u8]) -> bool
+    ensures { result ≡ is_unsupported word.now }
 {
     [
         b"foreach".as_slice(),

@@ -186,7 +186,7 @@ fn read_word_statement<'a>(
     match statement_word(word.word) {
         StatementWord::Kind(pick) => read_selection(alloc, pick, word.rest),
         StatementWord::Print => read_print(level, Name::default_set(), word),
-        StatementWord::LeftOut => Err(SyntaxError::at(QlCause::OutsideProfile, word.place)),
+        StatementWord::Unsupported => Err(SyntaxError::at(QlCause::Unsupported, word.place)),
         StatementWord::Unknown => Err(SyntaxError::at(QlCause::UnexpectedWord, word.place)),
     }
 }
@@ -220,12 +220,12 @@ fn read_set_word_statement<'a>(
     match statement_word(word.word) {
         StatementWord::Kind(_) => Err(SyntaxError::at(QlCause::UnexpectedWord, word.place)),
         StatementWord::Print => read_print(level, from, word),
-        StatementWord::LeftOut => Err(SyntaxError::at(QlCause::OutsideProfile, word.place)),
+        StatementWord::Unsupported => Err(SyntaxError::at(QlCause::Unsupported, word.place)),
         StatementWord::Unknown => Err(SyntaxError::at(QlCause::UnexpectedWord, word.place)),
     }
 }
 
-/// The out statement of a set, whose word has been read. `OutsideProfile` at the word where it stands in a
+/// The out statement of a set, whose word has been read. `Unsupported` at the word where it stands in a
 /// union or a difference.
 fn read_print<'a>(
     level: Level,
@@ -236,7 +236,7 @@ fn read_print<'a>(
 {
     match level {
         Level::Top => read_out(from, word.rest),
-        Level::Inner => Err(SyntaxError::at(QlCause::OutsideProfile, word.place)),
+        Level::Inner => Err(SyntaxError::at(QlCause::Unsupported, word.place)),
     }
 }
 

@@ -18,7 +18,7 @@ use std::alloc::Global;
 
 /// The filter after its `[`, and what is left after its `]`.
 ///
-/// `OutsideProfile` at a `~` or a `!~`, wherever it stands inside.
+/// `Unsupported` at a `~` or a `!~`, wherever it stands inside.
 pub(crate) fn read_tag_filter(
     alloc: Global,
     text: &[u8],
@@ -110,7 +110,7 @@ fn not_in_tag(token: Token<'_>) -> SyntaxError<'_>
 {
     match token.kind {
         TokenKind::Tilde | TokenKind::NotTilde => SyntaxError::at(
-            QlCause::OutsideProfile,
+            QlCause::Unsupported,
             token.place,
         ),
         _ => token.unexpected(),

@@ -5,7 +5,7 @@ use Rattle.std.proofs.lemmas.List.Sums.{sum_by-append, sum_by-cons}
 use Rattle.tree_node.specs.Nodes.{Binding, Link}
 use Rattle.tree_walk.specs.Choices.{AreThose, IsCount}
 use Rattle.tree_walk.specs.internal.Accounts.{Gains}
-use Rattle.tree_walk.specs.Given.{capped, sum_stated}
+use Rattle.tree_walk.specs.Given.{saturating_u64, sum_stated}
 
 -- ---- what is gathered
 
@@ -23,7 +23,7 @@ module _ {G : Type 0} (gathers : G → List (Option (List ℕ) × Link) → List
 -- ---- numbers of 64 bits
 
 -- a number of 64 bits is itself
-pub capped_itself : (n : ℕ) → n ≤ 2 ^ 64 - 1 → capped n ≡ n
+pub capped_itself : (n : ℕ) → n ≤ 2 ^ 64 - 1 → saturating_u64 n ≡ n
 capped_itself n le = omega (arith, le)
 
 -- ---- sums that are stated
@@ -49,7 +49,7 @@ count_most Has (x ∷ xs) n (inl has) = let rest = count_most Has xs has.1.0 has
 count_most Has (x ∷ xs) n (inr has) = let rest = count_most Has xs n has.1 in omega (arith, rest)
 
 -- the number of items that are counted, where a list has few, in 64 bits
-pub count_is : {X : Type 0} (Has : X → Type 0) (xs : List X) (n number : ℕ) → length xs ≤ 2 ^ 29 → number ≡ capped n → IsCount Has xs n → IsCount Has xs number
+pub count_is : {X : Type 0} (Has : X → Type 0) (xs : List X) (n number : ℕ) → length xs ≤ 2 ^ 29 → number ≡ saturating_u64 n → IsCount Has xs n → IsCount Has xs number
 count_is Has xs n number few is counted =
     let most = count_most Has xs n counted in
     let same : number ≡ n = is ∙ capped_itself n (omega (arith, most, few)) in

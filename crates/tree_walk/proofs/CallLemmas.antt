@@ -11,7 +11,7 @@ use Rattle.tree_walk.specs.Ranges.{Range}
 use Rattle.tree_walk.specs.Walks.{IsEntryIn, IsMet, IsMetCounted}
 use Rattle.tree_walk.specs.internal.Accounts.{Account}
 use Rattle.tree_walk.specs.Fetches.{AreDifferent, HasFetched, IsAmong, IsNodeText}
-use Rattle.tree_walk.specs.Given.{GivesFrom, IsCoveredChild, IsNever, IsWalk, SoMany, These, capped, sum_stated}
+use Rattle.tree_walk.specs.Given.{GivesFrom, IsCoveredChild, IsNever, IsWalk, SoMany, These, saturating_u64, sum_stated}
 use Rattle.tree_walk.specs.Reasons.{Top}
 use Rattle.tree_walk.proofs.shared.GivenLaws.{never_closed}
 use Rattle.tree_walk.specs.internal.Openings.{IsOpened}
@@ -31,10 +31,10 @@ pub found_all : (range : Range) (entries found all : List Binding) (closed : Lis
 found_all range entries found all closed items gathered account those = subst (λ (es : List Binding). AreThose (IsEntryIn range) entries es) (account.same refl ∙ sym gathered) those
 
 -- what was counted is the number of all
-pub counted_all : (range : Range) (entries found all : List Binding) (closed : List (Option (List ℕ) × Link)) (number : ℕ) → length entries ≤ 2 ^ 29 → number ≡ capped (sum_stated closed + length found) → Account true closed found all
+pub counted_all : (range : Range) (entries found all : List Binding) (closed : List (Option (List ℕ) × Link)) (number : ℕ) → length entries ≤ 2 ^ 29 → number ≡ saturating_u64 (sum_stated closed + length found) → Account true closed found all
     → AreThose (IsEntryIn range) entries all → IsCount (IsEntryIn range) entries number
 counted_all range entries found all closed number few gathered account those =
-    count_is (IsEntryIn range) entries (length all) number few (gathered ∙ ap capped (sym account.number)) (count_those (IsEntryIn range) entries all those)
+    count_is (IsEntryIn range) entries (length all) number few (gathered ∙ ap saturating_u64 (sym account.number)) (count_those (IsEntryIn range) entries all those)
 
 -- the nodes that were fetched give the entries
 pub walk_found : (shelf : ShelfUse) (from to : ℕ) (tree : Tree) (top : List ℕ) (range : Range) (nodes : List (List ℕ)) (closed : List (Option (List ℕ) × Link)) (found : List Binding) (items : List Item) → HasFetched shelf from to nodes → AreDifferent nodes → AllByRecursion IsNodeText nodes
@@ -50,5 +50,5 @@ walk_found shelf from to tree top range nodes closed found items fetched differ 
 
 -- and their number
 pub walk_counted : (shelf : ShelfUse) (from to : ℕ) (tree : Tree) (top : List ℕ) (range : Range) (nodes : List (List ℕ)) (closed : List (Option (List ℕ) × Link)) (found : List Binding) (number : ℕ) → HasFetched shelf from to nodes → AreDifferent nodes → AllByRecursion IsNodeText nodes
-    → GivesFrom (IsCoveredChild range) (IsAmong nodes) (number_of tree) range (Top top ∷ []) closed found → number ≡ capped (sum_stated closed + length found) → IsWalk shelf from to tree top range (SoMany number)
+    → GivesFrom (IsCoveredChild range) (IsAmong nodes) (number_of tree) range (Top top ∷ []) closed found → number ≡ saturating_u64 (sum_stated closed + length found) → IsWalk shelf from to tree top range (SoMany number)
 walk_counted shelf from to tree top range nodes closed found number fetched differ texts gives gathered = record { nodes = nodes; fetched = fetched; differ = differ; texts = texts; gives = (closed, found, gives, gathered) }

@@ -76,8 +76,8 @@ pub data Answer : Type 0 where
   SoMany : (number : ℕ) → Answer
 
 -- a number of 64 bits: a greater one is the greatest of them
-abbrev pub capped : ℕ → ℕ
-capped n = min n (2 ^ 64 - 1)
+abbrev pub saturating_u64 : ℕ → ℕ
+saturating_u64 n = min n (2 ^ 64 - 1)
 
 -- the entries that are stated of these children, together
 abbrev pub sum_stated : List (Option (List ℕ) × Link) → ℕ
@@ -89,7 +89,7 @@ abbrev pub Gives : (List ℕ → Type 0) → Tree → List ℕ → Range → Ans
 Gives used tree top range (These found) = GivesFrom IsNever used (number_of tree) range (Top top ∷ []) [] found
 Gives used tree top range (SoMany number) =
     (closed : List (Option (List ℕ) × Link)) × (found : List Binding) × GivesFrom (IsCoveredChild range) used (number_of tree) range (Top top ∷ []) closed found
-    × (number ≡ capped (sum_stated closed + length found))
+    × (number ≡ saturating_u64 (sum_stated closed + length found))
 
 -- One walk that ended well. It fetched these nodes, which differ and are each of a node's form, and they alone give its
 -- answer.

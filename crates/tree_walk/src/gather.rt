@@ -6,7 +6,7 @@ ghost use Rattle.tree_node.specs.NodeRefs.{binding_of, bindings_of, link_of};
 ghost use Rattle.tree_node.specs.Nodes.{Binding, Link};
 ghost use Rattle.tree_walk.specs.Ranges.{range_of};
 ghost use Rattle.tree_walk.specs.internal.Accounts.{Gains};
-ghost use Rattle.tree_walk.specs.Given.{capped, sum_stated};
+ghost use Rattle.tree_walk.specs.Given.{saturating_u64, sum_stated};
 ghost use Rattle.tree_walk.specs.internal.Openings.{IsClosed};
 
 use crate::key_range::KeyRange;
@@ -85,7 +85,7 @@ impl<'a> Gather<'a> for Counted {
     ghost closing = { true };
 
     ghost gathers = { λ counted closed entries.
-        counted.number ≡ capped (sum_stated closed + length entries) };
+        counted.number ≡ saturating_u64 (sum_stated closed + length entries) };
 
     fn closes(&mut self, range: &KeyRange<'_>, left: Option<&'a [u8]>, child: &Child<'a>) -> bool {
         let closed = range.covers(left, child.greatest);

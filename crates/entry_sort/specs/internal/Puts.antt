@@ -5,7 +5,7 @@ use Rattle.std.specs.List.{AllByRecursion}
 use Rattle.osm_model.specs.Elements.{Element, reference}
 use Rattle.osm_model.specs.Sets.{HasDistinctReferences, IsObjectSet}
 use Rattle.opl_codec.specs.Fields.{Each}
-use Rattle.opl_codec.specs.Files.{HoldsSet, StopsFile, spoken_of}
+use Rattle.opl_codec.specs.Files.{HoldsSet, StopsFile, without_skipped}
 use Rattle.opl_codec.specs.LineChanges.{SpellsObject}
 use Rattle.opl_codec.specs.LineReads.{LinePlace}
 use Rattle.opl_codec.specs.declared.cause.OplCause.TheVariants as causes
@@ -51,12 +51,12 @@ pub record StandsAfter (lines : List (List ℕ)) (before : List Put) (x : Put) :
   pub back : List (List ℕ)
   pub lines_are : lines ≡ front ++ line ∷ back
   pub number_is : x.line ≡ length front + 1
-  pub each : Each SpellsObject (spoken_of front) (objects_of before)
+  pub each : Each SpellsObject (without_skipped front) (objects_of before)
   pub says : SpellsObject line x.object
 
 -- these lines put these objects
 pub record SpellsPuts (lines : List (List ℕ)) (puts : List Put) : Type 0 where
-  pub each : Each SpellsObject (spoken_of lines) (objects_of puts)
+  pub each : Each SpellsObject (without_skipped lines) (objects_of puts)
   pub stand : (before : List Put) (x : Put) (after : List Put) → puts ≡ before ++ x ∷ after → StandsAfter lines before x
   pub rise : LinesRise puts
   pub below : AllByRecursion (λ p. p.line ≤ length lines) puts

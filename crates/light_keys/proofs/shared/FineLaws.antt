@@ -10,7 +10,7 @@ use Rattle.std.proofs.lemmas.List.Elements.{Contains-append_cases}
 use Rattle.std.proofs.lemmas.List.FromFn.{get_or-range_with_len, length-range_with_len}
 use Rattle.osm_model.specs.Boxes.{ExactBox, Holds, Spans}
 use Rattle.osm_model.specs.Degrees.{decimals}
-use Rattle.osm_model.specs.Edges.{IsAbove, IsAtLeast, IsAtMost, numerator, scale}
+use Rattle.osm_model.specs.Edges.{IsGreater, IsAtLeast, IsAtMost, numerator, scale}
 use Rattle.osm_model.specs.Places.{IsPlace, Place}
 use Rattle.tree_walk.specs.Ranges.{IsIn, Range}
 use Rattle.osm_keys.specs.Keys.{id_bytes}
@@ -59,8 +59,8 @@ module _ (b : ExactBox) (ranges : List Range) (are : AreFineRanges b ranges) whe
   -- what the columns of a box are
   abbrev IsSpan : ℕ × ℕ → Type 0
   IsSpan span =
-      (IsAbove b.west.value b.east.value × ((span ≡ (fine_column are.west, last_fine_column)) ⊎ (span ≡ (0, fine_column are.east))))
-      ⊎ ((¬ IsAbove b.west.value b.east.value) × (span ≡ (fine_column are.west, fine_column are.east)))
+      (IsGreater b.west.value b.east.value × ((span ≡ (fine_column are.west, last_fine_column)) ⊎ (span ≡ (0, fine_column are.east))))
+      ⊎ ((¬ IsGreater b.west.value b.east.value) × (span ≡ (fine_column are.west, fine_column are.east)))
 
   is_span : (span : ℕ × ℕ) → Contains are.columns span → IsSpan span
   is_span span there =
@@ -111,7 +111,7 @@ module _ (b : ExactBox) (ranges : List Range) (are : AreFineRanges b ranges) whe
     abbrev HasColumns : Type 0
     HasColumns = (span : ℕ × ℕ) × Contains are.columns span × (span.0 ≤ fine_column place.lon) × (fine_column place.lon ≤ span.1)
 
-    columns_around : IsAbove b.west.value b.east.value → are.columns ≡ (fine_column are.west, last_fine_column) ∷ (0, fine_column are.east) ∷ [] → Spans b.west.value b.east.value place.lon → HasColumns
+    columns_around : IsGreater b.west.value b.east.value → are.columns ≡ (fine_column are.west, last_fine_column) ∷ (0, fine_column are.east) ∷ [] → Spans b.west.value b.east.value place.lon → HasColumns
     columns_around crosses e (inl (uncrossed, _, _)) = absurd (uncrossed crosses)
     columns_around crosses e (inr (_, inl from_west)) = (
       (fine_column are.west, last_fine_column),
@@ -126,7 +126,7 @@ module _ (b : ExactBox) (ranges : List Range) (are : AreFineRanges b ranges) whe
       column_rises place.lon are.east is.lon ((are.east_is place.lon).0 to_east),
     )
 
-    columns_between : ¬ IsAbove b.west.value b.east.value → ((are.east <ℤ are.west) × (are.columns ≡ [])) ⊎ ((are.west ≤ℤ are.east) × (are.columns ≡ (fine_column are.west, fine_column are.east) ∷ []))
+    columns_between : ¬ IsGreater b.west.value b.east.value → ((are.east <ℤ are.west) × (are.columns ≡ [])) ⊎ ((are.west ≤ℤ are.east) × (are.columns ≡ (fine_column are.west, fine_column are.east) ∷ []))
         → Spans b.west.value b.east.value place.lon → HasColumns
     columns_between uncrossed of (inr (crosses, _)) = absurd (uncrossed crosses)
     columns_between uncrossed of (inl (_, from_west, to_east)) =
@@ -248,7 +248,7 @@ no_unit (negsuc x) (negsuc p) (negsuc q) sw se a b low high turned =
     none_between (x + 1) (q + 1) (p + 1) se sw h l t
 
 -- its eastern edge is west of its western one in whole units too, since no unit lies from west to east
-turned : (b : ExactBox) (ranges : List Range) (are : AreFineRanges b ranges) → IsAbove b.west.value b.east.value → fine_column are.east < fine_column are.west
+turned : (b : ExactBox) (ranges : List Range) (are : AreFineRanges b ranges) → IsGreater b.west.value b.east.value → fine_column are.east < fine_column are.west
 turned b ranges are crosses =
     elim (cases_lt (fine_column are.east) (fine_column are.west)) [
       | inl lt ↦ lt
@@ -312,7 +312,7 @@ module _ (b : ExactBox) (ranges : List Range) (are : AreFineRanges b ranges) (ke
             (omega (arith, row_few are.north are.northeast.lat, row_few are.south are.southwest.lat)))
       ])
 
-  two_once : IsAbove b.west.value b.east.value → (r : ℕ) → r < 65536 → AtMostOne HasKey (map (fine_range r) ((fine_column are.west, last_fine_column) ∷ (0, fine_column are.east) ∷ []))
+  two_once : IsGreater b.west.value b.east.value → (r : ℕ) → r < 65536 → AtMostOne HasKey (map (fine_range r) ((fine_column are.west, last_fine_column) ∷ (0, fine_column are.east) ∷ []))
   two_once crosses r hr = (
     (λ has y there also. elim (first_or_in_rest (fine_range r (0, fine_column are.east)) [] y there) [
       | inl same ↦ apart r r 0 (fine_column are.east) (fine_column are.west) last_fine_column key hr hr

@@ -26,7 +26,7 @@ use Rattle.opl_codec.specs.LineLetters.{IsLetterOf}
 use Rattle.opl_codec.specs.LineParts.{AreTags, Says, IsBodyOf}
 use Rattle.opl_codec.specs.LineChanges.{SpellsParts, SpellsObject}
 use Rattle.opl_codec.specs.Members.{SpellsMembers, MembersFit}
-use Rattle.opl_codec.specs.Values.{SpellsCoordinate, SpellsNodes, IsWithin}
+use Rattle.opl_codec.specs.Values.{SpellsCoordinate, SpellsNodes, FitsAxis}
 use Rattle.opl_codec.specs.declared.line_letter.LineLetter.TheVariants.{Version, Visible, Changeset, Stamp, Uid, User, Tags, Lon, Lat, Nodes, Members}
 use Rattle.opl_codec.specs.declared.line_parts.LineParts.{LineParts}
 use Rattle.opl_codec.proofs.shared.CanonicalFields.{fields_are, content_is, line_utf8}
@@ -111,12 +111,12 @@ once meta tags (Rel members) = (refl, (refl, (refl, (refl, (refl, (refl, (refl, 
 
 -- ---- the fields of the body
 
-lon_said : (body : Body) → BodyInRange body → MatchOption (field longitude_letter (body_fields body)) (lon_of body ≡ None) (λ text. MatchOption (lon_of body) ⊥ (λ lon. SpellsCoordinate text lon × IsWithin axes.Lon lon))
+lon_said : (body : Body) → BodyInRange body → MatchOption (field longitude_letter (body_fields body)) (lon_of body ≡ None) (λ text. MatchOption (lon_of body) ⊥ (λ lon. SpellsCoordinate text lon × FitsAxis axes.Lon lon))
 lon_said (Node place) is = (coordinate_spells place.lon is.lon, is.lon)
 lon_said (Way nodes) is = refl
 lon_said (Rel members) is = refl
 
-lat_said : (body : Body) → BodyInRange body → MatchOption (field latitude_letter (body_fields body)) (lat_of body ≡ None) (λ text. MatchOption (lat_of body) ⊥ (λ lat. SpellsCoordinate text lat × IsWithin axes.Lat lat))
+lat_said : (body : Body) → BodyInRange body → MatchOption (field latitude_letter (body_fields body)) (lat_of body ≡ None) (λ text. MatchOption (lat_of body) ⊥ (λ lat. SpellsCoordinate text lat × FitsAxis axes.Lat lat))
 lat_said (Node place) is = (coordinate_spells place.lat (omega (arith, is.lat)), is.lat)
 lat_said (Way nodes) is = refl
 lat_said (Rel members) is = refl

@@ -15,7 +15,7 @@ use Rattle.osm_model.specs.declared.member.Member.{Member}
 use Rattle.osm_model.proofs.shared.OneDecimal.{one_value}
 use Rattle.opl_codec.specs.Fields.{Each}
 use Rattle.opl_codec.specs.Texts.{is_free, IsText, SpellsText, BadEscapeIn}
-use Rattle.opl_codec.specs.Values.{items, SpellsVersion, SpellsNumber, SpellsVisible, SpellsStamp, SpellsCoordinate, IsWithin, SpellsTag, SpellsNode, SpellsTags, SpellsNodes, TagsFit}
+use Rattle.opl_codec.specs.Values.{items, SpellsVersion, SpellsNumber, SpellsVisible, SpellsStamp, SpellsCoordinate, FitsAxis, SpellsTag, SpellsNode, SpellsTags, SpellsNodes, TagsFit}
 use Rattle.opl_codec.specs.ValueFaults.{CoordinateFault, KeyMisfit, HasKey, TagFault, NodeFault, IsLocated, FirstFault, ListFault, IsSpelled, TagsFault, NodesFault, IsTooLong, further_by, items_len}
 use Rattle.opl_codec.specs.Members.{SpellsReference, SpellsMember, SpellsMembers, MembersFit, HasTarget, MemberFault, MembersFault}
 use Rattle.opl_codec.specs.declared.value_fault.ValueFault.{ValueFault}
@@ -143,11 +143,11 @@ one_nodes text s t h k = each_same SpellsNode one_node (items text) s t h k
 
 -- ---- no value where there is a fault
 
-pub not_bad_coordinate : (axis : Axis) (text : List ℕ) (fault : ValueFault) (coordinate : Option ℤ) → CoordinateFault axis text fault → SpellsCoordinate text coordinate → IsWithin axis coordinate → ⊥
+pub not_bad_coordinate : (axis : Axis) (text : List ℕ) (fault : ValueFault) (coordinate : Option ℤ) → CoordinateFault axis text fault → SpellsCoordinate text coordinate → FitsAxis axis coordinate → ⊥
 not_bad_coordinate axis text faults.Form coordinate h spelled within = h coordinate spelled
 not_bad_coordinate axis text (faults.Escape at) coordinate h spelled within = h
 not_bad_coordinate axis text faults.NodeLocation coordinate h spelled within = h
-not_bad_coordinate axis text faults.Limit coordinate h spelled within = h.2 (subst (IsWithin axis) (one_coordinate text coordinate h.0 spelled h.1) within)
+not_bad_coordinate axis text faults.Limit coordinate h spelled within = h.2 (subst (FitsAxis axis) (one_coordinate text coordinate h.0 spelled h.1) within)
 not_bad_coordinate axis text faults.Memory coordinate h spelled within = h
 
 -- the key of a tag is its text up to the `=`

@@ -9,7 +9,7 @@ use Rattle.std.proofs.lemmas.List.Elements.{Contains-append_cases}
 use Rattle.std.proofs.lemmas.List.FromFn.{get_or-range_with_len, length-range_with_len}
 use Rattle.std.proofs.lemmas.Option.{get_or_from_slice_get, slice_get_within}
 use Rattle.osm_model.specs.Boxes.{ExactBox, Holds, Spans}
-use Rattle.osm_model.specs.Edges.{IsAbove}
+use Rattle.osm_model.specs.Edges.{IsGreater}
 use Rattle.osm_model.specs.Elements.{Element}
 use Rattle.osm_model.specs.Limits.{BodyInRange}
 use Rattle.osm_model.specs.Places.{IsPlace, Place}
@@ -203,7 +203,7 @@ module _ (b : ExactBox) (ranges : List Range) (are : AreCellRanges b ranges) (pl
   abbrev HasColumns : Type 0
   HasColumns = (columns : ℕ × ℕ) × Contains are.columns columns × (columns.0 ≤ column place.lon) × (column place.lon ≤ columns.1) × (columns.1 ≤ last_column)
 
-  columns_around : IsAbove b.west.value b.east.value → are.columns ≡ (column are.west, last_column) ∷ (0, column are.east) ∷ [] → Spans b.west.value b.east.value place.lon → HasColumns
+  columns_around : IsGreater b.west.value b.east.value → are.columns ≡ (column are.west, last_column) ∷ (0, column are.east) ∷ [] → Spans b.west.value b.east.value place.lon → HasColumns
   columns_around crosses e (inl (uncrossed, _, _)) = absurd (uncrossed crosses)
   columns_around crosses e (inr (_, inl from_west)) = (
     (column are.west, last_column),
@@ -220,7 +220,7 @@ module _ (b : ExactBox) (ranges : List Range) (are : AreCellRanges b ranges) (pl
     column_few are.east are.northeast.lon,
   )
 
-  columns_between : ¬ IsAbove b.west.value b.east.value → ((are.east <ℤ are.west) × (are.columns ≡ [])) ⊎ ((are.west ≤ℤ are.east) × (are.columns ≡ (column are.west, column are.east) ∷ []))
+  columns_between : ¬ IsGreater b.west.value b.east.value → ((are.east <ℤ are.west) × (are.columns ≡ [])) ⊎ ((are.west ≤ℤ are.east) × (are.columns ≡ (column are.west, column are.east) ∷ []))
       → Spans b.west.value b.east.value place.lon → HasColumns
   columns_between uncrossed of (inr (crosses, _)) = absurd (uncrossed crosses)
   columns_between uncrossed of (inl (_, from_west, to_east)) =
@@ -337,7 +337,7 @@ module _ (place : Place) (id : ℤ) (is : IsPlace place) where
         ])
 
     abbrev IsApart : Type 0
-    IsApart = (¬ IsAbove b.west.value b.east.value) ⊎ (column are.east < column are.west)
+    IsApart = (¬ IsGreater b.west.value b.east.value) ⊎ (column are.east < column are.west)
 
     west_few : column are.west < 65536
     west_few = omega (arith, column_few are.west are.southwest.lon)
@@ -367,11 +367,11 @@ module _ (place : Place) (id : ℤ) (is : IsPlace place) where
         let east = in_span r (0, column are.east) hr (omega arith) east_few second in
         omega (arith, west.1, east.2)
 
-    apart_spans : IsAbove b.west.value b.east.value → IsApart → (column are.west ≤ column are.east) → ⊥
+    apart_spans : IsGreater b.west.value b.east.value → IsApart → (column are.west ≤ column are.east) → ⊥
     apart_spans crosses (inl uncrossed) le = uncrossed crosses
     apart_spans crosses (inr less) le = omega arith
 
-    two_once : IsAbove b.west.value b.east.value → IsApart → (r : ℕ) → r < 65536 → AtMostOne HasKey (map (cell_range r) ((column are.west, last_column) ∷ (0, column are.east) ∷ []))
+    two_once : IsGreater b.west.value b.east.value → IsApart → (r : ℕ) → r < 65536 → AtMostOne HasKey (map (cell_range r) ((column are.west, last_column) ∷ (0, column are.east) ∷ []))
     two_once crosses apart r hr = (
       (λ has y there also. elim (first_or_in_rest (cell_range r (0, column are.east)) [] y there) [
         | inl same ↦ apart_spans crosses apart (not_both r hr has (subst HasKey (sym same) also))
@@ -438,6 +438,6 @@ module _ (p : Publication) (is : IsPublication p) (b : ExactBox) (ranges : List 
   cell_held holds = key_held b ranges are place o.id in_place holds
 
   -- and by one only, but for a box that goes round the earth to the cell that it begins in
-  pub cell_once : ((¬ IsAbove b.west.value b.east.value) ⊎ (column are.east < column are.west)) → (k j : ℕ) (x y : Range)
+  pub cell_once : ((¬ IsGreater b.west.value b.east.value) ⊎ (column are.east < column are.west)) → (k j : ℕ) (x y : Range)
       → slice_get ranges k ≡ Some x → slice_get ranges j ≡ Some y → IsIn x (cell_key place o.id) → IsIn y (cell_key place o.id) → k ≡ j
   cell_once apart k j x y e f p q = one_place (HasKey place o.id in_place) ranges (key_once place o.id in_place b ranges are apart) k j x y e f p q

@@ -5,7 +5,7 @@ use Rattle.std.specs.List.{AllByRecursion, flat_map}
 use Rattle.std.proofs.lemmas.List.{append-nil, take_at, drop_at}
 use Rattle.tree_node.specs.Fronts.{number_at}
 use Rattle.tree_node.proofs.shared.FieldLemmas.{number_again, ok_is, wide32}
-use Rattle.osm_prove.specs.Proofs.{IsProof, Lists, front, listing, marked}
+use Rattle.osm_prove.specs.Proofs.{IsProof, Lists, front, listing, with_length}
 
 -- a node whose length fits four bytes
 abbrev pub IsShort : List ℕ → Type 0
@@ -27,7 +27,7 @@ same_front a b x y len e = (
 )
 
 -- two texts that begin with a node after its length begin with the same one
-pub same_node : (a b x y : List ℕ) → IsShort a → IsShort b → marked a ++ x ≡ marked b ++ y → (a ≡ b) × (x ≡ y)
+pub same_node : (a b x y : List ℕ) → IsShort a → IsShort b → with_length a ++ x ≡ with_length b ++ y → (a ≡ b) × (x ≡ y)
 same_node a b x y fits fits_too e =
     let parts = same_number (length a) (length b) (a ++ x) (b ++ y) fits fits_too (sym (append_assoc (to_be_bytes w32 (length a)) a x) ∙ e ∙ append_assoc (to_be_bytes w32 (length b)) b y) in
     same_front a b x y parts.0 parts.1
@@ -37,15 +37,15 @@ same_node a b x y fits fits_too e =
 -- the nodes that are still to come, where some were read
 pub record AreLeft (nodes done more : List (List ℕ)) (rest : List ℕ) : Type 0 where
   pub parts : nodes ≡ done ++ more
-  pub text : rest ≡ flat_map marked more
+  pub text : rest ≡ flat_map with_length more
   pub short : AllByRecursion IsShort more
 
-pub left_after : (done nodes : List (List ℕ)) (rest : List ℕ) → AllByRecursion IsShort done → AllByRecursion IsShort nodes → length done ≤ length nodes → flat_map marked nodes ≡ flat_map marked done ++ rest
+pub left_after : (done nodes : List (List ℕ)) (rest : List ℕ) → AllByRecursion IsShort done → AllByRecursion IsShort nodes → length done ≤ length nodes → flat_map with_length nodes ≡ flat_map with_length done ++ rest
     → (more : List (List ℕ)) × AreLeft nodes done more rest
 left_after [] nodes rest short all fit e = (nodes, record { parts = refl; text = sym e; short = all })
 left_after (d ∷ done) [] rest short all fit e = absurd (omega arith)
 left_after (d ∷ done) (n ∷ nodes) rest short all fit e =
-    let first = same_node n d (flat_map marked nodes) (flat_map marked done ++ rest) all.0 short.0 (e ∙ append_assoc (marked d) (flat_map marked done) rest) in
+    let first = same_node n d (flat_map with_length nodes) (flat_map with_length done ++ rest) all.0 short.0 (e ∙ append_assoc (with_length d) (flat_map with_length done) rest) in
     let others = left_after done nodes rest short.1 all.1 (omega arith) first.1 in (
       others.0,
       record {
@@ -58,13 +58,13 @@ left_after (d ∷ done) (n ∷ nodes) rest short all fit e =
 -- ---- whole proofs
 
 -- what the listing is, which is opaque elsewhere
-pub listing_is : (nodes : List (List ℕ)) → listing nodes ≡ front ++ (to_be_bytes w32 (length nodes) ++ flat_map marked nodes)
+pub listing_is : (nodes : List (List ℕ)) → listing nodes ≡ front ++ (to_be_bytes w32 (length nodes) ++ flat_map with_length nodes)
 unfolding listing
 listing_is nodes = refl
 
 -- some nodes of a proof that states this number of them were read, and this is the rest
 pub record HasRead (bytes rest : List ℕ) (count : ℕ) (done : List (List ℕ)) : Type 0 where
-  pub text : bytes ≡ front ++ (to_be_bytes w32 count ++ (flat_map marked done ++ rest))
+  pub text : bytes ≡ front ++ (to_be_bytes w32 count ++ (flat_map with_length done ++ rest))
   pub fits : count < 2 ^ 32
   pub short : AllByRecursion IsShort done
 
@@ -72,8 +72,8 @@ pub record HasRead (bytes rest : List ℕ) (count : ℕ) (done : List (List ℕ)
 pub left_in : (bytes rest : List ℕ) (count : ℕ) (done nodes : List (List ℕ)) → HasRead bytes rest count done → Lists bytes nodes → length done ≤ count
     → (length nodes ≡ count) × ((more : List (List ℕ)) × AreLeft nodes done more rest)
 left_in bytes rest count done nodes read lists fit =
-    let bodies : to_be_bytes w32 (length nodes) ++ flat_map marked nodes ≡ to_be_bytes w32 count ++ (flat_map marked done ++ rest) = ap (drop 5) (sym (lists.spelled ∙ listing_is nodes) ∙ read.text) in
-    let parts = same_number (length nodes) count (flat_map marked nodes) (flat_map marked done ++ rest) lists.fits.few read.fits bodies in
+    let bodies : to_be_bytes w32 (length nodes) ++ flat_map with_length nodes ≡ to_be_bytes w32 count ++ (flat_map with_length done ++ rest) = ap (drop 5) (sym (lists.spelled ∙ listing_is nodes) ∙ read.text) in
+    let parts = same_number (length nodes) count (flat_map with_length nodes) (flat_map with_length done ++ rest) lists.fits.few read.fits bodies in
     (parts.0, left_after done nodes rest read.short lists.fits.short (omega (arith, parts.0)) parts.1)
 
 none_left : (done more : List (List ℕ)) → length done ≡ length (done ++ more) → more ≡ []
@@ -83,7 +83,7 @@ none_left done (m ∷ more) len = absurd (omega (arith, length-append done (m �
 -- a proof, all of whose nodes were read
 all_read : (bytes : List ℕ) (nodes : List (List ℕ)) → Lists bytes nodes → HasRead bytes [] (length nodes) nodes
 all_read bytes nodes lists = record {
-  text = lists.spelled ∙ listing_is nodes ∙ ap (λ (t : List ℕ). front ++ (to_be_bytes w32 (length nodes) ++ t)) (sym (append-nil (flat_map marked nodes)));
+  text = lists.spelled ∙ listing_is nodes ∙ ap (λ (t : List ℕ). front ++ (to_be_bytes w32 (length nodes) ++ t)) (sym (append-nil (flat_map with_length nodes)));
   fits = lists.fits.few;
   short = lists.fits.short;
 }
@@ -103,16 +103,16 @@ pub none_read : (bytes rest : List ℕ) (count : ℕ) → bytes ≡ front ++ (to
 none_read bytes rest count head fits = record { text = head; fits = fits; short = tt }
 
 -- one more was
-pub one_more : (bytes rest after node : List ℕ) (count : ℕ) (done : List (List ℕ)) → HasRead bytes rest count done → rest ≡ marked node ++ after → IsShort node → HasRead bytes after count (done ++ node ∷ [])
+pub one_more : (bytes rest after node : List ℕ) (count : ℕ) (done : List (List ℕ)) → HasRead bytes rest count done → rest ≡ with_length node ++ after → IsShort node → HasRead bytes after count (done ++ node ∷ [])
 one_more bytes rest after node count done read e fits = record {
-  text = read.text ∙ ap (λ (t : List ℕ). front ++ (to_be_bytes w32 count ++ t)) (ap (λ (t : List ℕ). flat_map marked done ++ t) e ∙ joined done);
+  text = read.text ∙ ap (λ (t : List ℕ). front ++ (to_be_bytes w32 count ++ t)) (ap (λ (t : List ℕ). flat_map with_length done ++ t) e ∙ joined done);
   fits = read.fits;
   short = all_short done read.short;
 }
   where
-    joined : (nodes : List (List ℕ)) → flat_map marked nodes ++ (marked node ++ after) ≡ flat_map marked (nodes ++ node ∷ []) ++ after
-    joined [] = ap (λ (t : List ℕ). t ++ after) (sym (append-nil (marked node)))
-    joined (n ∷ nodes) = append_assoc (marked n) (flat_map marked nodes) (marked node ++ after) ∙ ap (λ (t : List ℕ). marked n ++ t) (joined nodes) ∙ sym (append_assoc (marked n) (flat_map marked (nodes ++ node ∷ [])) after)
+    joined : (nodes : List (List ℕ)) → flat_map with_length nodes ++ (with_length node ++ after) ≡ flat_map with_length (nodes ++ node ∷ []) ++ after
+    joined [] = ap (λ (t : List ℕ). t ++ after) (sym (append-nil (with_length node)))
+    joined (n ∷ nodes) = append_assoc (with_length n) (flat_map with_length nodes) (with_length node ++ after) ∙ ap (λ (t : List ℕ). with_length n ++ t) (joined nodes) ∙ sym (append_assoc (with_length n) (flat_map with_length (nodes ++ node ∷ [])) after)
 
     all_short : (nodes : List (List ℕ)) → AllByRecursion IsShort nodes → AllByRecursion IsShort (nodes ++ node ∷ [])
     all_short [] all = (fits, tt)
@@ -120,30 +120,30 @@ one_more bytes rest after node count done read e fits = record {
 
 -- without the head of a proof, the bytes are none
 pub headless : (bytes : List ℕ) → ((count : ℕ) (rest : List ℕ) → bytes ≢ front ++ (to_be_bytes w32 count ++ rest)) → ¬ IsProof bytes
-headless bytes none proof = none (length proof.0) (flat_map marked proof.0) (proof.1.spelled ∙ listing_is proof.0)
+headless bytes none proof = none (length proof.0) (flat_map with_length proof.0) (proof.1.spelled ∙ listing_is proof.0)
 
 -- where a node is to come and none stands there, the bytes are no proof
 pub cut_short : (bytes rest : List ℕ) (count : ℕ) (done : List (List ℕ)) → HasRead bytes rest count done → length done < count
-    → ((node after : List ℕ) → IsShort node → rest ≢ marked node ++ after) → ¬ IsProof bytes
+    → ((node after : List ℕ) → IsShort node → rest ≢ with_length node ++ after) → ¬ IsProof bytes
 cut_short bytes rest count done read fit none proof =
     let left = left_in bytes rest count done proof.0 read proof.1 (omega arith) in
     stop left.1.0 left.1.1 (omega (arith, left.0, ap (length {A = List ℕ}) left.1.1.parts, length-append done left.1.0))
   where
     stop : (more : List (List ℕ)) → AreLeft proof.0 done more rest → 0 < length more → ⊥
     stop [] left some = absurd (omega arith)
-    stop (m ∷ more) left some = none m (flat_map marked more) left.short.0 left.text
+    stop (m ∷ more) left some = none m (flat_map with_length more) left.short.0 left.text
 
 -- where bytes follow the last node, the bytes are no proof
 pub too_long : (bytes rest : List ℕ) (count : ℕ) (done : List (List ℕ)) → HasRead bytes rest count done → length done ≡ count → 0 < length rest → ¬ IsProof bytes
 too_long bytes rest count done read all some proof =
     let left = left_in bytes rest count done proof.0 read proof.1 (omega arith) in
     let none = none_left done left.1.0 (all ∙ sym left.0 ∙ ap (length {A = List ℕ}) left.1.1.parts) in
-    omega (arith, ap (length {A = ℕ}) (left.1.1.text ∙ ap (flat_map marked) none))
+    omega (arith, ap (length {A = ℕ}) (left.1.1.text ∙ ap (flat_map with_length) none))
 
 -- where nothing follows it, the bytes list the nodes
 pub whole_read : (bytes rest : List ℕ) (count : ℕ) (done : List (List ℕ)) → HasRead bytes rest count done → length done ≡ count → length rest ≡ 0 → Lists bytes done
 whole_read bytes [] count done read all none = record {
   fits = record { few = omega (arith, read.fits); short = read.short };
-  spelled = read.text ∙ ap (λ (t : List ℕ). front ++ (to_be_bytes w32 count ++ t)) (append-nil (flat_map marked done)) ∙ ap (λ n. front ++ (to_be_bytes w32 n ++ flat_map marked done)) (sym all) ∙ sym (listing_is done);
+  spelled = read.text ∙ ap (λ (t : List ℕ). front ++ (to_be_bytes w32 count ++ t)) (append-nil (flat_map with_length done)) ∙ ap (λ n. front ++ (to_be_bytes w32 n ++ flat_map with_length done)) (sym all) ∙ sym (listing_is done);
 }
 whole_read bytes (r ∷ rest) count done read all none = absurd (omega arith)

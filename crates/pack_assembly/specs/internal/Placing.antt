@@ -62,7 +62,7 @@ IsOfLevel level node = IsNode node × (level_of node ≡ level)
 
 -- these nodes of a row have just these nodes as their children, which are yet to be measured, and whose records stand one after
 -- the other from an offset on
-pub record IsAbove (place_of : List ℕ → Option Place) (unmeasured : List (List ℕ)) (row : Row) (at : ℕ) (nodes lower : List Node) : Type 0 where
+pub record AreParentsOf (place_of : List ℕ → Option Place) (unmeasured : List (List ℕ)) (row : Row) (at : ℕ) (nodes lower : List Node) : Type 0 where
   pub are : AllByRecursion (IsOfLevel row.level) nodes
   pub joined : flat_map child_digests nodes ≡ digests_of lower
   pub short : AreShort (kepts_of nodes)

@@ -14,7 +14,7 @@ use Rattle.ql_syntax.proofs.DefiniteRules.{query_is}
 use Rattle.ql_syntax.proofs.PlaceRules.{query_stops_told}
 use Rattle.ql_syntax.proofs.QueryLemmas.{reads_whole, fault_of, same_fault}
 use Rattle.ql_syntax.proofs.QuerySpellings.{query_reads}
-use Rattle.ql_syntax.proofs.TotalLemmas.{Outcome, AsRead, AsStop}
+use Rattle.ql_syntax.proofs.TotalLemmas.{TotalAt, AsRead, AsStop}
 use Rattle.ql_syntax.proofs.TotalRules as total
 
 -- what is spelled so is read so
@@ -98,7 +98,7 @@ some_length [] not = absurd (not IsUtf8-nil)
 some_length (b ∷ s) not = valid_at (b ∷ s) (length s) (omega arith) (λ m more is. not (subst IsUtf8 (take_all m (b ∷ s) (omega arith)) is))
 
 -- bytes are a query, or have a fault
-stopped_or_read : (bytes : List ℕ) → IsText bytes → Outcome query bytes → ((statements : Statements) × Reads bytes statements) ⊎ ((fault : QlFault) × HasFault bytes fault)
+stopped_or_read : (bytes : List ℕ) → IsText bytes → TotalAt query bytes → ((statements : Statements) × Reads bytes statements) ⊎ ((fault : QlFault) × HasFault bytes fault)
 stopped_or_read bytes text (AsRead v rest reads) = inl (v, reads_whole bytes v rest text reads)
 stopped_or_read bytes text (AsStop cause place stops) = inr (record { cause = cause; byte = length bytes - length place }, fault_of place text stops refl)
 

@@ -37,7 +37,7 @@ HaveGained piece (edit ∷ edits) (after ∷ others) =
     (after.olds.items ≡ edit.olds.items) × (after.news.items ≡ edit.news.items ++ piece ∷ []) × (others ≡ edits)
 
 -- the node is of a level from this one on, which the one tree has and the other hasn't
-pub record IsAbove (old new : List (List Node)) (from : ℕ) (node : Node) : Type 0 where
+pub record IsGrown (old new : List (List Node)) (from : ℕ) (node : Node) : Type 0 where
   pub level : ℕ
   pub above : from ≤ level
   pub is : IsIn node (level_at new level)
@@ -64,7 +64,7 @@ pub record IsFound (old new : List (List Node)) (edits : List LevelEdit) (added 
   pub stays : (l : ℕ) (node : Node) → length edits ≤ l → IsIn node (level_at old l) → IsIn node (level_at new l)
   pub grown : List Node
   pub grown_are : later ≡ added ++ map spelling grown
-  pub grown_in : (node : Node) → IsIn node grown ↔ IsAbove old new (length edits) node
+  pub grown_in : (node : Node) → IsIn node grown ↔ IsGrown old new (length edits) node
   pub grown_once : AreOnce grown
   pub passed : List Node
   pub passed_are : lost_later ≡ gone ++ map node_digest passed

@@ -10,7 +10,7 @@ use Rattle.osm_query_web.proofs.PieceLemmas.{pieces_of_file}
 use Rattle.osm_query_web.specs.Answers.{IsAnswerOf, IsTableOfWanted}
 use Rattle.osm_query_web.specs.Pieces.{IsPartsOf}
 use Rattle.osm_query_web.specs.Spans.{spans_in}
-use Rattle.osm_query_web.specs.internal.Outcomes.{ExplainsBy, IsExplained, handed}
+use Rattle.osm_query_web.specs.internal.CallResults.{ExplainsBy, IsExplained, handed}
 use Rattle.osm_query_web.specs.internal.Reading.{ArePiecesOf}
 use Rattle.osm_query_web.proofs.call.answer_from_pieces.Goals as goal
 

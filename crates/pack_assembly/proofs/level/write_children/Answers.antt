@@ -9,14 +9,14 @@ use Rattle.node_pack.specs.Packs.{child_digests, table}
 use Rattle.node_pack.specs.declared.place.Place.{Place}
 use Rattle.pack_assembly.specs.declared.row.Row.{Row}
 use Rattle.pack_assembly.specs.internal.Order.{digests_of}
-use Rattle.pack_assembly.specs.internal.Placing.{IsAbove, IsAmong}
+use Rattle.pack_assembly.specs.internal.Placing.{AreParentsOf, IsAmong}
 use Rattle.pack_assembly.proofs.LevelLemmas.{on_ok}
 use Rattle.pack_assembly.proofs.TableLemmas.{above_childless, above_next, first_below, front_none, inner_level, no_table}
 use Rattle.pack_assembly.proofs.level.write_children.Goals as goal
 
 -- the children are those that are yet to be measured one level below
 below : (place_of : List ℕ → Option Place) (unmeasured : Tree → ℕ → List (List ℕ)) (row lower_row : Row) (at : ℕ) (own : Node) (others lower : List Node)
-    → lower_row.tree ≡ row.tree → lower_row.level ≡ row.level - 1 → IsAbove place_of (unmeasured row.tree (row.level - 1)) row at (own ∷ others) lower → length (links_in own) ≢ 0
+    → lower_row.tree ≡ row.tree → lower_row.level ≡ row.level - 1 → AreParentsOf place_of (unmeasured row.tree (row.level - 1)) row at (own ∷ others) lower → length (links_in own) ≢ 0
     → IsAmong place_of (unmeasured lower_row.tree lower_row.level) at lower
 below place_of unmeasured row lower_row at own others lower tree level above some =
     subst (λ (t : Tree). IsAmong place_of (unmeasured t lower_row.level) at lower) (sym tree)
@@ -47,7 +47,7 @@ returns-clause-past g c = λ true place_of own others lower above is.
     let left = back place_of now c.args.row c.lower_row.result c.write_table.new.at (drop c.args.count lower) c.lower_row.ensures.tree c.lower_row.ensures.level past in
     let next = above_next place_of (g.L.NodeLevels.unmeasured c.args.levels.now c.args.row.tree (c.args.row.level - 1)) (now c.args.row.tree (c.args.row.level - 1)) c.args.row c.args.at.now c.write_table.new.at own others lower above
     (λ deep. subst (λ (n : ℕ). IsAmong place_of (now c.args.row.tree (c.args.row.level - 1)) c.write_table.new.at (drop n lower)) is left) in
-    subst (λ (n : ℕ). IsAbove place_of (now c.args.row.tree (c.args.row.level - 1)) c.args.row c.write_table.new.at others (drop n lower)) (sym is) next)
+    subst (λ (n : ℕ). AreParentsOf place_of (now c.args.row.tree (c.args.row.level - 1)) c.args.row c.write_table.new.at others (drop n lower)) (sym is) next)
 
 pub returns-clause-begun : goal.returns-clause-begun
 returns-clause-begun g c = λ true place_of own others lower above is.
@@ -66,7 +66,7 @@ returns-then-count-eq0-clause-whole g c = λ true place_of own others lower abov
 pub returns-then-count-eq0-clause-past : goal.returns-then-count-eq0-clause-past
 returns-then-count-eq0-clause-past g c = λ true place_of own others lower above is.
     let unmeasured = g.L.NodeLevels.unmeasured c.args.levels.now c.args.row.tree (c.args.row.level - 1) in
-    subst (λ (n : ℕ). IsAbove place_of unmeasured c.args.row c.args.at.now others (drop n lower)) (sym is)
+    subst (λ (n : ℕ). AreParentsOf place_of unmeasured c.args.row c.args.at.now others (drop n lower)) (sym is)
     (above_childless place_of unmeasured c.args.row c.args.at.now own others lower above (sym is ∙ c.if-count-eq0.true))
 
 pub returns-then-count-eq0-clause-begun : goal.returns-then-count-eq0-clause-begun

@@ -3,7 +3,7 @@ use Rattle.std.proofs.lemmas.List.{length-map}
 use Rattle.tree_node.specs.Nodes.{Node, spelling}
 use Rattle.tree_node.specs.Trees.{links_in}
 use Rattle.tree_node.specs.declared.tree.Tree.{Tree}
-use Rattle.pack_assembly.specs.internal.Placing.{IsAbove}
+use Rattle.pack_assembly.specs.internal.Placing.{AreParentsOf}
 use Rattle.pack_assembly.proofs.FaultLemmas.{read_unwritten, residual}
 use Rattle.pack_assembly.proofs.LevelLemmas.{first_read, none_read, one_fewer}
 use Rattle.pack_assembly.proofs.TableLemmas.{all_written, none_written, one_written, part_written, written_front}
@@ -21,21 +21,21 @@ loop-init g c = (
 pub returns-in_err-next_node-clause-begun : goal.returns-in_err-next_node-clause-begun
 returns-in_err-next_node-clause-begun g c = λ true place_of nodes lower same above.
     let was = c.loop.invariant.1 true place_of nodes lower (c.rewind_both.ensures.unread ∙ same)
-    (subst (λ (u : List (List ℕ)). IsAbove place_of u c.args.row c.args.below nodes lower) (sym c.rewind_both.ensures.unmeasured) above) in
+    (subst (λ (u : List (List ℕ)). AreParentsOf place_of u c.args.row c.args.below nodes lower) (sym c.rewind_both.ensures.unmeasured) above) in
     written_front place_of c.args.row nodes (g.L.NodeLevels.unread c.loop.levels c.args.row.tree c.args.row.level) (g.L.NodeLevels.unmeasured c.loop.levels c.args.row.tree (c.args.row.level - 1)) c.loop.at
     (g.W.Write.contents c.args.writer.now) (g.W.Write.contents c.loop.writer) was
 
 pub returns-clause-begun : goal.returns-clause-begun
 returns-clause-begun g c = λ true place_of nodes lower same above.
     let was = c.loop.invariant.1 true place_of nodes lower (c.rewind_both.ensures.unread ∙ same)
-    (subst (λ (u : List (List ℕ)). IsAbove place_of u c.args.row c.args.below nodes lower) (sym c.rewind_both.ensures.unmeasured) above) in
+    (subst (λ (u : List (List ℕ)). AreParentsOf place_of u c.args.row c.args.below nodes lower) (sym c.rewind_both.ensures.unmeasured) above) in
     written_front place_of c.args.row nodes (g.L.NodeLevels.unread c.loop.levels c.args.row.tree c.args.row.level) (g.L.NodeLevels.unmeasured c.loop.levels c.args.row.tree (c.args.row.level - 1)) c.loop.at
     (g.W.Write.contents c.args.writer.now) (g.W.Write.contents c.loop.writer) was
 
 pub returns-then-not-branch-clause-whole : goal.returns-then-not-branch-clause-whole
 returns-then-not-branch-clause-whole g c = λ true place_of nodes lower same above.
     let was = c.loop.invariant.1 true place_of nodes lower (c.rewind_both.ensures.unread ∙ same)
-    (subst (λ (u : List (List ℕ)). IsAbove place_of u c.args.row c.args.below nodes lower) (sym c.rewind_both.ensures.unmeasured) above) in
+    (subst (λ (u : List (List ℕ)). AreParentsOf place_of u c.args.row c.args.below nodes lower) (sym c.rewind_both.ensures.unmeasured) above) in
     let none = none_read (g.L.NodeLevels.unread c.loop.levels) (g.L.NodeLevels.unread c.next_node.new.self) c.args.row.tree c.args.row.level c.in_ok-next_node.field-0 c.next_node.new.into.items was.rest
     c.if-not-branch.true (c.in_ok-next_node.ensures.read true) was.left in
     all_written place_of c.args.row nodes (g.L.NodeLevels.unread c.loop.levels c.args.row.tree c.args.row.level) (g.L.NodeLevels.unmeasured c.loop.levels c.args.row.tree (c.args.row.level - 1)) c.loop.at
@@ -44,18 +44,18 @@ returns-then-not-branch-clause-whole g c = λ true place_of nodes lower same abo
 pub returns-then-not-branch-clause-begun : goal.returns-then-not-branch-clause-begun
 returns-then-not-branch-clause-begun g c = λ true place_of nodes lower same above.
     let was = c.loop.invariant.1 true place_of nodes lower (c.rewind_both.ensures.unread ∙ same)
-    (subst (λ (u : List (List ℕ)). IsAbove place_of u c.args.row c.args.below nodes lower) (sym c.rewind_both.ensures.unmeasured) above) in
+    (subst (λ (u : List (List ℕ)). AreParentsOf place_of u c.args.row c.args.below nodes lower) (sym c.rewind_both.ensures.unmeasured) above) in
     written_front place_of c.args.row nodes (g.L.NodeLevels.unread c.loop.levels c.args.row.tree c.args.row.level) (g.L.NodeLevels.unmeasured c.loop.levels c.args.row.tree (c.args.row.level - 1)) c.loop.at
     (g.W.Write.contents c.args.writer.now) (g.W.Write.contents c.loop.writer) was
 
 pub returns-in_err-write_record-clause-begun : goal.returns-in_err-write_record-clause-begun
 returns-in_err-write_record-clause-begun g c = λ true place_of nodes lower same above.
     let was = c.loop.invariant.1 true place_of nodes lower (c.rewind_both.ensures.unread ∙ same)
-    (subst (λ (u : List (List ℕ)). IsAbove place_of u c.args.row c.args.below nodes lower) (sym c.rewind_both.ensures.unmeasured) above) in
+    (subst (λ (u : List (List ℕ)). AreParentsOf place_of u c.args.row c.args.below nodes lower) (sym c.rewind_both.ensures.unmeasured) above) in
     let first = first_read (g.L.NodeLevels.unread c.loop.levels) (g.L.NodeLevels.unread c.next_node.new.self) c.args.row.tree c.args.row.level c.in_ok-next_node.field-0 c.next_node.new.into.items was.rest
     c.if-not-branch.false (c.in_ok-next_node.ensures.read true) was.left in
-    let there = subst (λ (ns : List Node). IsAbove place_of (g.L.NodeLevels.unmeasured c.loop.levels c.args.row.tree (c.args.row.level - 1)) c.args.row c.loop.at ns was.lower) first.are was.above in
-    let now = subst (λ (u : Tree → ℕ → List (List ℕ)). IsAbove place_of (u c.args.row.tree (c.args.row.level - 1)) c.args.row c.loop.at (first.node ∷ first.others) was.lower)
+    let there = subst (λ (ns : List Node). AreParentsOf place_of (g.L.NodeLevels.unmeasured c.loop.levels c.args.row.tree (c.args.row.level - 1)) c.args.row c.loop.at ns was.lower) first.are was.above in
+    let now = subst (λ (u : Tree → ℕ → List (List ℕ)). AreParentsOf place_of (u c.args.row.tree (c.args.row.level - 1)) c.args.row c.loop.at (first.node ∷ first.others) was.lower)
     (sym c.in_ok-next_node.ensures.unmeasured) there in
     part_written place_of c.args.row nodes (g.L.NodeLevels.unread c.loop.levels c.args.row.tree c.args.row.level) (g.L.NodeLevels.unmeasured c.loop.levels c.args.row.tree (c.args.row.level - 1)) c.loop.at
     (g.W.Write.contents c.args.writer.now) (g.W.Write.contents c.loop.writer) was (g.W.Write.contents c.write_record.new.writer) first.node first.others first.are
@@ -68,8 +68,8 @@ loop-preserved g c = (
       let was = c.loop.invariant.1 true place_of nodes lower same above in
       let first = first_read (g.L.NodeLevels.unread c.loop.levels) (g.L.NodeLevels.unread c.next_node.new.self) c.args.row.tree c.args.row.level c.in_ok-next_node.field-0 c.next_node.new.into.items was.rest
       c.if-not-branch.false (c.in_ok-next_node.ensures.read true) was.left in
-      let there = subst (λ (ns : List Node). IsAbove place_of (g.L.NodeLevels.unmeasured c.loop.levels c.args.row.tree (c.args.row.level - 1)) c.args.row c.loop.at ns was.lower) first.are was.above in
-      let now = subst (λ (u : Tree → ℕ → List (List ℕ)). IsAbove place_of (u c.args.row.tree (c.args.row.level - 1)) c.args.row c.loop.at (first.node ∷ first.others) was.lower)
+      let there = subst (λ (ns : List Node). AreParentsOf place_of (g.L.NodeLevels.unmeasured c.loop.levels c.args.row.tree (c.args.row.level - 1)) c.args.row c.loop.at ns was.lower) first.are was.above in
+      let now = subst (λ (u : Tree → ℕ → List (List ℕ)). AreParentsOf place_of (u c.args.row.tree (c.args.row.level - 1)) c.args.row c.loop.at (first.node ∷ first.others) was.lower)
       (sym c.in_ok-next_node.ensures.unmeasured) there in
       let read = c.as_slice.ensures.value ∙ first.read_is in
       one_written place_of c.args.row nodes (g.L.NodeLevels.unread c.loop.levels c.args.row.tree c.args.row.level) (g.L.NodeLevels.unmeasured c.loop.levels c.args.row.tree (c.args.row.level - 1)) c.loop.at
@@ -93,11 +93,11 @@ returns-in_err-next_node-clause-device g c = λ true refuses place_of nodes lowe
 pub returns-in_err-write_record-clause-device : goal.returns-in_err-write_record-clause-device
 returns-in_err-write_record-clause-device g c = λ true refuses place_of nodes lower same above few told.
     let was = c.loop.invariant.1 true place_of nodes lower (c.rewind_both.ensures.unread ∙ same)
-    (subst (λ (u : List (List ℕ)). IsAbove place_of u c.args.row c.args.below nodes lower) (sym c.rewind_both.ensures.unmeasured) above) in
+    (subst (λ (u : List (List ℕ)). AreParentsOf place_of u c.args.row c.args.below nodes lower) (sym c.rewind_both.ensures.unmeasured) above) in
     let first = first_read (g.L.NodeLevels.unread c.loop.levels) (g.L.NodeLevels.unread c.next_node.new.self) c.args.row.tree c.args.row.level c.in_ok-next_node.field-0 c.next_node.new.into.items was.rest
     c.if-not-branch.false (c.in_ok-next_node.ensures.read true) was.left in
-    let there = subst (λ (ns : List Node). IsAbove place_of (g.L.NodeLevels.unmeasured c.loop.levels c.args.row.tree (c.args.row.level - 1)) c.args.row c.loop.at ns was.lower) first.are was.above in
-    let now = subst (λ (u : Tree → ℕ → List (List ℕ)). IsAbove place_of (u c.args.row.tree (c.args.row.level - 1)) c.args.row c.loop.at (first.node ∷ first.others) was.lower)
+    let there = subst (λ (ns : List Node). AreParentsOf place_of (g.L.NodeLevels.unmeasured c.loop.levels c.args.row.tree (c.args.row.level - 1)) c.args.row c.loop.at ns was.lower) first.are was.above in
+    let now = subst (λ (u : Tree → ℕ → List (List ℕ)). AreParentsOf place_of (u c.args.row.tree (c.args.row.level - 1)) c.args.row c.loop.at (first.node ∷ first.others) was.lower)
     (sym c.in_ok-next_node.ensures.unmeasured) there in
     c.in_err-write_record.ensures.device true refuses place_of first.node first.others was.lower (c.as_slice.ensures.value ∙ first.read_is) now (search rules)
 

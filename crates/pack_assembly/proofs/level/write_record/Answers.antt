@@ -5,7 +5,7 @@ use Rattle.std.specs.Prelude.{OnOk}
 use Rattle.byte_io.specs.Written.{AppendsFront}
 use Rattle.tree_node.specs.Trees.{links_in}
 use Rattle.node_pack.specs.Packs.{child_digests, table}
-use Rattle.pack_assembly.specs.internal.Placing.{IsAbove}
+use Rattle.pack_assembly.specs.internal.Placing.{AreParentsOf}
 use Rattle.pack_assembly.proofs.WriteLemmas.{one_begun, second_begun, three_begun, three_written}
 use Rattle.pack_assembly.proofs.level.write_record.Goals as goal
 
@@ -35,7 +35,7 @@ pub returns-clause-past : goal.returns-clause-past
 returns-clause-past g c = λ true place_of own others lower read above.
     let told : Some c.in-Some.count ≡ Some (length (links_in own)) = c.in-Some.ensures own (above.are.0.0, read) above.are.0.1 in
     let is : c.in-Some.count ≡ length (links_in own) = Prim.cc in
-    subst (λ (n : ℕ). OnOk c.write_children.result (IsAbove place_of (g.L.NodeLevels.unmeasured c.write_children.new.levels c.args.row.tree (c.args.row.level - 1)) c.args.row c.write_children.new.at others (drop n lower))) is
+    subst (λ (n : ℕ). OnOk c.write_children.result (AreParentsOf place_of (g.L.NodeLevels.unmeasured c.write_children.new.levels c.args.row.tree (c.args.row.level - 1)) c.args.row c.write_children.new.at others (drop n lower))) is
     (c.write_children.ensures.past true place_of own others lower above is)
 
 pub returns-clause-begun : goal.returns-clause-begun

@@ -10,9 +10,9 @@ pub returns-in-Along : goal.returns-in-Along
 unfolding word_selector
 returns-in-Along c = follows_case _ c.in-Along.ensures (follows_of c.read_path_from.ensures)
 
-pub returns-in-LeftOut : goal.returns-in-LeftOut
+pub returns-in-Unsupported : goal.returns-in-Unsupported
 unfolding word_selector
-returns-in-LeftOut c = follows_case _ c.in-LeftOut.ensures (follows_refuse c.at.ensures.cause c.at.ensures.rest)
+returns-in-Unsupported c = follows_case _ c.in-Unsupported.ensures (follows_refuse c.at.ensures.cause c.at.ensures.rest)
 
 pub returns-in-Unknown : goal.returns-in-Unknown
 unfolding word_selector

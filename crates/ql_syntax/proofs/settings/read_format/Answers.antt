@@ -12,10 +12,10 @@ unfolding format
 returns-in-Known c =
     follows_then _ c.in_ok-found.ensures (follows_case _ c.in-Known.ensures (follows_give refl refl))
 
-pub returns-in-LeftOut : goal.returns-in-LeftOut
+pub returns-in-Unsupported : goal.returns-in-Unsupported
 unfolding format
-returns-in-LeftOut c =
-    follows_then _ c.in_ok-found.ensures (follows_case _ c.in-LeftOut.ensures (follows_refuse c.at.ensures.cause c.at.ensures.rest))
+returns-in-Unsupported c =
+    follows_then _ c.in_ok-found.ensures (follows_case _ c.in-Unsupported.ensures (follows_refuse c.at.ensures.cause c.at.ensures.rest))
 
 pub returns-in-Unknown : goal.returns-in-Unknown
 unfolding format

@@ -22,9 +22,9 @@ unfolding setting_value
 returns-in_ok-pass-in-Count c =
     follows_case _ c.in-Count.ensures (follows_then _ c.in_ok-pass-in-Count.ensures c.read_count.ensures)
 
-pub returns-in-LeftOut : goal.returns-in-LeftOut
+pub returns-in-Unsupported : goal.returns-in-Unsupported
 unfolding setting_value
-returns-in-LeftOut c = follows_case _ c.in-LeftOut.ensures (follows_refuse c.at.ensures.cause c.at.ensures.rest)
+returns-in-Unsupported c = follows_case _ c.in-Unsupported.ensures (follows_refuse c.at.ensures.cause c.at.ensures.rest)
 
 pub returns-in-Unknown : goal.returns-in-Unknown
 unfolding setting_value

@@ -10,9 +10,9 @@ pub returns-in-Print : goal.returns-in-Print
 unfolding set_word_statement
 returns-in-Print c = follows_case _ c.in-Print.ensures c.read_print.ensures
 
-pub returns-in-LeftOut : goal.returns-in-LeftOut
+pub returns-in-Unsupported : goal.returns-in-Unsupported
 unfolding set_word_statement
-returns-in-LeftOut c = follows_case _ c.in-LeftOut.ensures (follows_refuse c.at-in-LeftOut.ensures.cause c.at-in-LeftOut.ensures.rest)
+returns-in-Unsupported c = follows_case _ c.in-Unsupported.ensures (follows_refuse c.at-in-Unsupported.ensures.cause c.at-in-Unsupported.ensures.rest)
 
 pub returns-in-Unknown : goal.returns-in-Unknown
 unfolding set_word_statement

@@ -11,9 +11,9 @@ pub returns-in-Print : goal.returns-in-Print
 unfolding word_statement
 returns-in-Print c = follows_case _ c.in-Print.ensures (follows_at (λ (name : List ℕ). print c.args.level name c.args.word.place.now) c.default_set.ensures (follows_of c.read_print.ensures))
 
-pub returns-in-LeftOut : goal.returns-in-LeftOut
+pub returns-in-Unsupported : goal.returns-in-Unsupported
 unfolding word_statement
-returns-in-LeftOut c = follows_case _ c.in-LeftOut.ensures (follows_refuse c.at.ensures.cause c.at.ensures.rest)
+returns-in-Unsupported c = follows_case _ c.in-Unsupported.ensures (follows_refuse c.at.ensures.cause c.at.ensures.rest)
 
 pub returns-in-Unknown : goal.returns-in-Unknown
 unfolding word_statement

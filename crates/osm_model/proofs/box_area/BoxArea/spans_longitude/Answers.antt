@@ -1,10 +1,10 @@
 use Rattle.std.proofs.Common.{◌↔◌, IsTrue, inl, inr, rules}
-use Rattle.osm_model.specs.Edges.{IsAtLeast, IsAtMost, IsAbove}
+use Rattle.osm_model.specs.Edges.{IsAtLeast, IsAtMost, IsGreater}
 use Rattle.osm_model.proofs.box_area.BoxArea.spans_longitude.Goals as goal
 
 pub returns-then-from_west-2 : goal.returns-then-from_west-2
 returns-then-from_west-2 c =
-    let wraps : IsTrue c.self.inside.wraps ↔ IsAbove c.self.inside.west.value c.self.inside.east.value = c.self.invariant.1 in
+    let wraps : IsTrue c.self.inside.wraps ↔ IsGreater c.self.inside.west.value c.self.inside.east.value = c.self.invariant.1 in
     let west : IsTrue c.at_least-from_west.result ↔ IsAtLeast c.args.lon c.self.inside.west.value = search rules in
     let east : IsTrue c.at_most-to_east.result ↔ IsAtMost c.args.lon c.self.inside.east.value = search rules in
     rw (← c.self.view_is) (

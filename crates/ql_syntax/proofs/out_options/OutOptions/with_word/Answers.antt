@@ -12,9 +12,9 @@ pub returns-in-Order : goal.returns-in-Order
 unfolding with_word
 returns-in-Order c = λ text. follows_case _ c.in-Order.ensures (c.once-in-Order.ensures text)
 
-pub returns-in-LeftOut : goal.returns-in-LeftOut
+pub returns-in-Unsupported : goal.returns-in-Unsupported
 unfolding with_word
-returns-in-LeftOut c = λ text. follows_case _ c.in-LeftOut.ensures (follows_refuse c.at.ensures.cause c.at.ensures.rest)
+returns-in-Unsupported c = λ text. follows_case _ c.in-Unsupported.ensures (follows_refuse c.at.ensures.cause c.at.ensures.rest)
 
 pub returns-in-Unknown : goal.returns-in-Unknown
 unfolding with_word

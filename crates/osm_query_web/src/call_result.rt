@@ -4,7 +4,7 @@ use osm_packs::NotAnswered;
 
 /// What comes of a call.
 #[derive(Drop)]
-pub(crate) enum Outcome {
+pub(crate) enum CallResult {
     /// There is an answer: its document.
     Document(Vec<u8>),
     /// Parts of the pack are missing: the table of them.

@@ -9,8 +9,8 @@ use Rattle.osm_packs.specs.declared.not_answered.NotAnswered.TheVariants as faul
 use Rattle.osm_query_web.specs.Pieces.{AreWanted, IsPartsOf}
 use Rattle.osm_query_web.specs.Spans.{table_of}
 use Rattle.osm_query_web.specs.ToldFaults.{nothing, told_of}
-use Rattle.osm_query_web.specs.declared.outcome.Outcome.{Outcome}
-use Rattle.osm_query_web.specs.declared.outcome.Outcome.TheVariants.{Document, Missing, NoMemory, Refused}
+use Rattle.osm_query_web.specs.declared.call_result.CallResult.{CallResult}
+use Rattle.osm_query_web.specs.declared.call_result.CallResult.TheVariants.{Document, Missing, NoMemory, Refused}
 use Rattle.osm_query_web.specs.declared.span.Span.{Span}
 use Rattle.osm_query_web.specs.declared.stated.Stated.{Stated}
 use Rattle.osm_query_web.specs.declared.told.Told.{Told}
@@ -19,21 +19,21 @@ use Rattle.osm_query_web.specs.declared.told.TheConstants.{MORE, NO, NO_MEMORY, 
 -- ---- outcomes
 
 -- of the document, if there is one
-abbrev pub IfDocument : Outcome → (List ℕ → Type 0) → Type 0
+abbrev pub IfDocument : CallResult → (List ℕ → Type 0) → Type 0
 IfDocument (Document document) P = P document.items
 IfDocument (Missing table) P = ⊤
 IfDocument (Refused fault) P = ⊤
 IfDocument NoMemory P = ⊤
 
 -- of the table of what is missing, if there is one
-abbrev pub IfMissing : Outcome → (List ℕ → Type 0) → Type 0
+abbrev pub IfMissing : CallResult → (List ℕ → Type 0) → Type 0
 IfMissing (Document document) P = ⊤
 IfMissing (Missing table) P = P table.items
 IfMissing (Refused fault) P = ⊤
 IfMissing NoMemory P = ⊤
 
 -- of the reason why there is no answer, if it is told
-abbrev pub IfRefused : Outcome → (NotAnswered → Type 0) → Type 0
+abbrev pub IfRefused : CallResult → (NotAnswered → Type 0) → Type 0
 IfRefused (Document document) P = ⊤
 IfRefused (Missing table) P = ⊤
 IfRefused (Refused fault) P = P fault
@@ -66,14 +66,14 @@ pub record ListsWanted (size : ℕ) (spans : List Span) (table : List ℕ) : Typ
   pub are_wanted : AreWanted size spans wanted
 
 -- what comes of a read that failed: what is missing, or where nothing is the fault, unless memory runs out
-abbrev pub IsAfterRead : (size : ℕ) (spans : List Span) → NotAnswered → Outcome → Type 0
+abbrev pub IsAfterRead : (size : ℕ) (spans : List Span) → NotAnswered → CallResult → Type 0
 IsAfterRead size spans fault (Document document) = ⊥
 IsAfterRead size spans fault (Missing table) = ListsWanted size spans table.items
 IsAfterRead size spans fault (Refused told) = told ≡ fault
 IsAfterRead size spans fault NoMemory = ⊤
 
 -- what comes of a fault
-abbrev pub ComesOf : (size : ℕ) (spans : List Span) → NotAnswered → Outcome → Type 0
+abbrev pub ComesOf : (size : ℕ) (spans : List Span) → NotAnswered → CallResult → Type 0
 ComesOf size spans faults.Memory outcome = outcome ≡ NoMemory
 ComesOf size spans faults.Device outcome = outcome ≡ NoMemory
 ComesOf size spans (faults.Pack packs.Device) outcome = IsAfterRead size spans (faults.Pack packs.Device) outcome
@@ -121,7 +121,7 @@ pub record IsToldAlone (found : Handed) (status : ℕ) (told : Told) : Type 0 wh
   pub room_is : found.after ≡ found.before
 
 -- the outcome is told and handed over
-abbrev pub IsHanded : Outcome → Handed → Type 0
+abbrev pub IsHanded : CallResult → Handed → Type 0
 IsHanded (Document document) found = IsHandedOver found YES document.items
 IsHanded (Missing table) found = IsHandedOver found MORE table.items
 IsHanded (Refused fault) found = IsToldAlone found NO (told_of fault)
