@@ -30,7 +30,7 @@ use Rattle.ref_sets.proofs.shared.References.{equal_is_same, equal_itself}
 use Rattle.ql_meaning.proofs.shared.Chains.{first_is_there, last_is_there}
 use Rattle.ref_sets.proofs.shared.Adding.{first_or_in_rest, here, in_rest, none}
 use Rattle.ref_sets.specs.NamedSets.{Env}
-use Rattle.ql_meaning.specs.Values.{IsGreater as IsAboveOf, IsBelow, IsChain, IsDown, IsIn, IsOfKind, IsOnPath, IsPicked, IsReached, IsSelected, IsUp, Link, Longer, Passes}
+use Rattle.ql_meaning.specs.Values.{IsAbove as IsAboveOf, IsBelow, IsChain, IsDown, IsIn, IsOfKind, IsOnPath, IsPicked, IsReached, IsSelected, IsUp, Link, Longer, Passes}
 
 -- it is so, or it isn't
 abbrev pub Dec : Type 0 → Type 0
