@@ -1,13 +1,12 @@
 //! The command `pack --add CHANGEFILE PACK`.
 
-ghost use Rattle.std.specs.Prelude.{◌≡◌, ◌≢◌, ◌↔◌, ◌⊎◌, ◌<◌, ℕ, IfErr, IfOk, IsTrue, List, OnOk, length, true, ⊤};
+ghost use Rattle.std.specs.Prelude.{◌≡◌, ◌≢◌, ◌↔◌, ◌⊎◌, ◌<◌, ℕ, IfErr, IfOk, IsTrue, List, OnOk, length, true};
 ghost use Rattle.std.specs.Io.KnownBytes.{Appends, Keeps};
 ghost use Rattle.hex.specs.Hex.{encode_lower};
-ghost use Rattle.tree_node.specs.Outcomes.{Clash};
-ghost use Rattle.osm_keys.specs.Publications.{IsNodeIn, Publication};
+ghost use Rattle.osm_keys.specs.Publications.{Publication};
 ghost use Rattle.pack_files.specs.Joined.{joined};
 ghost use Rattle.pack_head.specs.Names.{IsHeadName};
-ghost use Rattle.pack_update.specs.Adding.{HasFurther, IsAddedOf, IsRootOf};
+ghost use Rattle.pack_update.specs.Adding.{HasFurther, HasSecondPreimage, IsAddedOf, IsRootOf};
 ghost use Rattle.pack_update.specs.Files.{AreFilesOf};
 ghost use Rattle.osm_commands.specs.TreeRoots.{publication_line};
 ghost use Rattle.osm_pack_changes.specs.Adding.{HasAddedFile, IsNextOf};
@@ -61,11 +60,11 @@ pub fn add_to_pack<
     output: &mut W,
 ) -> Result<(), NotAdded>
     // Under the root of a publication, whatever the files hold: the root that is told is that of the next one, by the changes that
-    // the file holds, unless one of its nodes and other bytes have one digest.
+    // the file holds, unless one of its nodes and another byte string have one digest.
     ensures told { (p : Publication) → IsRootOf p head.now.root.0
         → OnOk result ((q : Publication) × IsNextOf (C.remaining change_file.old) p q
         × Appends (W.contents output.old) (W.contents output.new) (publication_line q))
-        ⊎ Clash (IsNodeIn p) (λ _. ⊤) }
+        ⊎ HasSecondPreimage p }
     // Where the files have the nodes of that publication, the next head and the files that it names are those of the next one.
     ensures added { (p : Publication) (contents : List (List ℕ)) → IsRootOf p head.now.root.0
         → F.reads files.places (joined contents) → AreFilesOf contents p (place_in head.now)
@@ -75,7 +74,7 @@ pub fn add_to_pack<
         (record { before = P.contents further.old; after = P.contents further.new })
         (record { before = H.contents new_head.old; after = H.contents new_head.new })
         × Appends (W.contents output.old) (W.contents output.new) (publication_line q))
-        ⊎ Clash (IsNodeIn p) (λ _. ⊤) }
+        ⊎ HasSecondPreimage p }
     // All is in its place then, and nothing is held back.
     ensures placed { OnOk result ((P.is_flushed further.new ≡ true) × (P.is_in_place further.new ≡ true)
         × (H.is_flushed new_head.new ≡ true) × (H.is_in_place new_head.new ≡ true)
@@ -89,7 +88,7 @@ pub fn add_to_pack<
     ensures refused { (p : Publication) → IsRootOf p head.now.root.0
         → IfErr result (Explains p (C.remaining change_file.old) (C.remaining change_file.new)
         (length head.now.files.items) name.now)
-        ⊎ Clash (IsNodeIn p) (λ _. ⊤) }
+        ⊎ HasSecondPreimage p }
     // Nothing is written where the changes aren't read, or are refused,
     ensures untouched { IfErr result (λ fault. IsBeforeWriting fault → further.new ≡ further.old) }
     // and nothing but the new file where no device fails.
@@ -114,16 +113,16 @@ fn add_read<F: ReadAt + Drop, W: Write>(
 ) -> Result<Added, NotAdded>
     ensures safe { (p : Publication) → IsRootOf p head.now.root.0
         → IfOk result (λ added. (q : Publication) × IsNextBeside p read.now q × IsAddedOf q added)
-        ⊎ Clash (IsNodeIn p) (λ _. ⊤) }
+        ⊎ HasSecondPreimage p }
     ensures whole { (p : Publication) (contents : List (List ℕ)) → IsRootOf p head.now.root.0
         → F.reads files.places (joined contents) → AreFilesOf contents p (place_in head.now)
         → length contents ≡ length head.now.files.items
         → IfOk result (λ added. (q : Publication) × IsNextBeside p read.now q × IsAddedOf q added
         × HasFurther contents q added (W.contents further.old) (W.contents further.new))
-        ⊎ Clash (IsNodeIn p) (λ _. ⊤) }
+        ⊎ HasSecondPreimage p }
     ensures refused { (p : Publication) → IsRootOf p head.now.root.0
         → IfErr result (RefusesRead p read.now (length head.now.files.items) name.now)
-        ⊎ Clash (IsNodeIn p) (λ _. ⊤) }
+        ⊎ HasSecondPreimage p }
     ensures untouched { IfErr result (λ fault. IsBeforeWriting fault → further.new ≡ further.old) }
     ensures named { IfOk result (λ _. (length head.now.files.items < FILES_LIMIT) × IsHeadName name.now) }
 {

@@ -1,16 +1,15 @@
 //! The command `pack --compact HEAD PACK`.
 
 ghost use Rattle.std.specs.Io.KnownBytes.{Appends, Keeps};
-ghost use Rattle.std.specs.Prelude.{◌≡◌, ◌≢◌, ◌⊎◌, ℕ, IfErr, List, OnOk, ⊤, true};
+ghost use Rattle.std.specs.Prelude.{◌≡◌, ◌≢◌, ◌⊎◌, ℕ, IfErr, List, OnOk, true};
 ghost use Rattle.osm_commands.specs.TreeRoots.{publication_line};
-ghost use Rattle.osm_keys.specs.Publications.{IsNodeIn, Publication};
+ghost use Rattle.osm_keys.specs.Publications.{Publication};
 ghost use Rattle.osm_pack_changes.specs.Compacting.{IsOutside, IsReason};
 ghost use Rattle.osm_pack_changes.specs.Heads.{manifest_place as place_in};
 ghost use Rattle.pack_assembly.specs.Packing.{IsPacked};
 ghost use Rattle.pack_files.specs.Joined.{joined};
-ghost use Rattle.pack_update.specs.Adding.{IsRootOf};
+ghost use Rattle.pack_update.specs.Adding.{HasSecondPreimage, IsRootOf};
 ghost use Rattle.pack_update.specs.Files.{AreFilesOf};
-ghost use Rattle.tree_node.specs.Outcomes.{Clash};
 
 use crate::manifest::manifest_place;
 use crate::not_compacted::NotCompacted;
@@ -52,21 +51,21 @@ pub fn compact_pack<
     output: &mut W,
 ) -> Result<(), NotCompacted>
     // Under the root of a publication, whatever the files hold: the writers have gained exactly its pack and the line of its root,
-    // unless one of its nodes and other bytes have one digest.
+    // unless one of its nodes and another byte string have one digest.
     ensures told { S.is_true ≡ true → (p : Publication) → IsRootOf p head.now.root.0
         → OnOk result (IsPacked p (P.contents pack.old) (P.contents pack.new)
         × Appends (W.contents output.old) (W.contents output.new) (publication_line p))
-        ⊎ Clash (IsNodeIn p) (λ _. ⊤) }
+        ⊎ HasSecondPreimage p }
     // The pack is in its place then, and nothing is held back.
     ensures placed { OnOk result ((P.is_flushed pack.new ≡ true) × (P.is_in_place pack.new ≡ true)
         × (W.is_flushed output.new ≡ true)) }
     // Where the files have the nodes of that publication, only memory, a device or its having no pack is a reason to refuse,
     ensures whole { S.is_true ≡ true → (p : Publication) (contents : List (List ℕ)) → IsRootOf p head.now.root.0
         → F.reads files.old (joined contents) → AreFilesOf contents p (place_in head.now)
-        → IfErr result (IsOutside p) ⊎ Clash (IsNodeIn p) (λ _. ⊤) }
+        → IfErr result (IsOutside p) ⊎ HasSecondPreimage p }
     // and in any case each refusal has its reason, with the same exception.
     ensures refused { S.is_true ≡ true → (p : Publication) → IsRootOf p head.now.root.0
-        → IfErr result (IsReason p) ⊎ Clash (IsNodeIn p) (λ _. ⊤) }
+        → IfErr result (IsReason p) ⊎ HasSecondPreimage p }
     // Nothing is written where no device fails,
     ensures nothing { IfErr result (λ fault. fault ≢ NotCompacted.Device
         → (pack.new ≡ pack.old) × (output.new ≡ output.old)) }

@@ -3,6 +3,7 @@ use Rattle.std.proofs.Common.{◌≡◌, ◌≢◌, ◌⊎◌, ◌∙◌, ℕ, L
 use Rattle.std.specs.Prelude.{⊤, IfOk, not, take}
 use Rattle.std.specs.Str.{bytes_eq}
 use Rattle.tree_node.proofs.shared.MapLemmas.{eq_is}
+use Rattle.tree_node.specs.Nodes.{AreBytes}
 use Rattle.tree_node.specs.Outcomes.{Clash}
 use Rattle.tree_node.specs.declared.digest.Digest.{Digest}
 use Rattle.osm_forms.specs.Forms.{form_text}
@@ -12,7 +13,7 @@ use Rattle.ql_syntax.specs.Queries.{Reads}
 use Rattle.ql_syntax.specs.Statements.{Statements}
 use Rattle.ql_meaning.specs.Meanings.{Means_by}
 use Rattle.ql_eval.specs.Asks.{IsNeeded}
-use Rattle.ql_eval.specs.Work.{WorkOfQuery}
+use Rattle.ql_eval.specs.Work.{HasNoClash, IsNodeOf, WorkOfQuery}
 use Rattle.ql_eval.specs.Written.{HasWrittenMeaning_by}
 use Rattle.ql_eval.specs.declared.fault.EvalFault.{EvalFault}
 use Rattle.ql_eval.specs.declared.fault.EvalFault.TheVariants as evaluations
@@ -21,6 +22,7 @@ use Rattle.osm_prove.proofs.shared.QueryWorks.{query_too_much}
 use Rattle.osm_check.specs.Verdicts.{IsReadable}
 use Rattle.outside_shelf.specs.declared.refused.Refused.{Refused}
 use Rattle.outside_shelf.specs.declared.refused.Refused.TheVariants as reasons
+use Rattle.outside_shelf.specs.SecondPreimages.{HaveSecondPreimage}
 use Rattle.outside_answer.specs.Answers as answering
 use Rattle.outside_answer.specs.declared.fault.AnswerFault.{AnswerFault}
 use Rattle.outside_answer.specs.declared.fault.AnswerFault.TheVariants as answers
@@ -34,12 +36,23 @@ use Rattle.osm_packs.specs.declared.not_answered.NotAnswered.{NotAnswered}
 use Rattle.osm_packs.specs.declared.not_answered.NotAnswered.TheVariants.{Device, Evaluation, Memory, Node, OtherRoot, Pack, Query, Work}
 
 -- what an empty text has gained is right
-pub right_text : (p : Publication) (form : Form) (query : List ℕ) (statements : Statements) (old new : List ℕ) → Reads query statements → old ≡ []
-    → HasWrittenMeaning_by (form_text form) p statements (λ (text : List ℕ). old ≡ text) (λ (text : List ℕ). new ≡ text) ⊎ Clash (IsNeeded p statements) (λ _. ⊤)
-    → IsRight p form query new
-right_text p form query statements old new reads empty (inl (text, means, written)) =
+pub right_text : (p : Publication) (form : Form) (query : List ℕ) (statements : Statements) (These : List ℕ → Type 0) (old new : List ℕ) → Reads query statements → old ≡ []
+    → HasWrittenMeaning_by (form_text form) p statements (λ (text : List ℕ). old ≡ text) (λ (text : List ℕ). new ≡ text) ⊎ Clash (IsNeeded p statements) These
+    → IsRight p form query These new
+right_text p form query statements These old new reads empty (inl (text, means, written)) =
     inl (record { statements = statements; reads = reads; means = subst (λ (t : List ℕ). Means_by (form_text form) p.objects statements t) (sym (written.all [] empty)) means })
-right_text p form query statements old new reads empty (inr clash) = inr (record { statements = statements; reads = reads; clash = clash })
+right_text p form query statements These old new reads empty (inr clash) = inr (record { statements = statements; reads = reads; clash = clash })
+
+-- where one of a set of byte strings clashes, a byte string does
+pub right_of_bytes : (p : Publication) (form : Form) (query : List ℕ) (These : List ℕ → Type 0) → ((x : List ℕ) → These x → AreBytes x) → (text : List ℕ) → IsRight p form query These text → IsRight p form query AreBytes text
+right_of_bytes p form query These bytes text (inl right) = inl right
+right_of_bytes p form query These bytes text (inr clashes) =
+    let clash = clashes.clash in
+    inr (record { statements = clashes.statements; reads = clashes.reads; clash = (clash.0, clash.1, clash.2, bytes clash.1 clash.3, clash.4, clash.5) })
+
+-- nor does a node of a publication clash with one of them, where it has no second preimage
+pub no_clash : (p : Publication) (These : List ℕ → Type 0) → ((x : List ℕ) → These x → AreBytes x) → ¬ HaveSecondPreimage (IsNodeOf p) → HasNoClash p These
+no_clash p These bytes none clash = none (clash.0, clash.1, clash.2, bytes clash.1 clash.3, clash.4, clash.5)
 
 -- digests that don't differ are one
 not_differ : (same : Bool) → not same ≡ false → same ≡ true

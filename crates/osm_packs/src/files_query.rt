@@ -1,9 +1,8 @@
 //! The answer to a query from the files of a head.
 
-ghost use Rattle.std.specs.Prelude.{◌≡◌, ◌≢◌, Err, IfErr, IfOk, None, OnOk, true, ⊤};
+ghost use Rattle.std.specs.Prelude.{◌≡◌, ◌≢◌, Err, IfErr, IfOk, None, OnOk, true};
 ghost use Rattle.std.specs.Io.KnownBytes.{Keeps};
 ghost use Rattle.tree_node.specs.Digests.{digest as digest_word};
-ghost use Rattle.tree_node.specs.Outcomes.{Clash};
 ghost use Rattle.osm_forms.specs.Forms.{form_text};
 ghost use Rattle.osm_keys.specs.Manifests.{manifest_bytes};
 ghost use Rattle.osm_keys.specs.Publications.{IsPublication, Publication, root_of};
@@ -11,15 +10,19 @@ ghost use Rattle.osm_keys.specs.declared.manifest.Manifest.{Manifest};
 ghost use Rattle.ql_eval.specs.Work.{IsNodeOf};
 ghost use Rattle.osm_prove.specs.Budgets.{IsWorkOf};
 ghost use Rattle.osm_check.specs.Verdicts.{IsReadable};
+ghost use Rattle.outside_shelf.specs.SecondPreimages.{HaveSecondPreimage};
+ghost use Rattle.outside_shelf.specs.Shelves.{HasBrought};
 ghost use Rattle.osm_packs.specs.Querying.{ExplainsInFiles, HasAnswered, HasBegun, IsRight, KeepsBudget};
 
-use crate::answer_text::answer_text;
+use crate::found_text::{FoundText, text_found};
+use crate::limits::Limits;
 use crate::not_answered::NotAnswered;
 use crate::query_command::{fault_of_pack, fault_of_query};
+use bumpalo::Bump;
 use node_pack::{PackSource, Place, ReadAt};
 use osm_commands::{FlushingWriter, write_document};
 use osm_forms::Form;
-use outside_answer::Limits;
+use outside_shelf::OutsideShelf;
 use ql_syntax::parse;
 use std::alloc::Global;
 use tree_node::Digest;
@@ -30,8 +33,9 @@ use tree_node::Digest;
 /// # Errors
 ///
 /// Those of `query`: `OtherRoot` where the head states another root, and `Pack` only with `Device`, where the files can't be opened.
-pub fn query_files<F: ReadAt + Drop, W: FlushingWriter>(
+pub fn query_files<'a, F: ReadAt + Drop, W: FlushingWriter>(
     alloc: Global,
+    arena: &'a Bump,
     form: Form,
     root: &Digest,
     query: &[u8],
@@ -40,20 +44,21 @@ pub fn query_files<F: ReadAt + Drop, W: FlushingWriter>(
     stated: &Digest,
     manifest: Place,
     output: &mut W,
-) -> Result<(), NotAnswered>
+) -> Result<OutsideShelf<'a, PackSource<F>>, NotAnswered>
     // The headline: whatever the files hold, under the root of any publication the output has gained the document of the
-    // query's meaning over its set, unless a node that the query needs and other bytes have one digest.
+    // query's meaning over its set, unless a node that the query needs and a different one that was read have one digest.
     ensures right { (p : Publication) → IsPublication p → root.now.0 ≡ root_of p
-        → OnOk result (HasAnswered p form query.now (W.contents output.old) (W.contents output.new)) }
+        → IfOk result (λ nodes. HasAnswered p form query.now (HasBrought nodes) (W.contents output.old)
+        (W.contents output.new)) }
     // Where the output fails, it has a beginning of it.
     ensures begun { (p : Publication) → IsPublication p → root.now.0 ≡ root_of p
         → result ≡ Err NotAnswered.Device
         → HasBegun p form query.now (W.contents output.old) (W.contents output.new) }
     // Whatever the root is of, it is the digest of a manifest where there is an answer.
     ensures rooted { OnOk result ((found : Manifest) × (digest_word (manifest_bytes found) ≡ root.now.0)) }
-    // The budget is kept, unless nodes of the publication and other bytes clash. Without one no work is too much.
+    // The budget is kept, unless a node of the publication has a second preimage. Without one no work is too much.
     ensures budget { (p : Publication) → IsPublication p → root.now.0 ≡ root_of p
-        → ¬ Clash (IsNodeOf p) (λ _. ⊤)
+        → ¬ HaveSecondPreimage (IsNodeOf p)
         → KeepsBudget (IsWorkOf (form_text form) p query.now) limits.work result }
     ensures limited { limits.work ≡ None → result ≢ Err NotAnswered.Work }
     // Which fault it is.
@@ -66,16 +71,19 @@ pub fn query_files<F: ReadAt + Drop, W: FlushingWriter>(
     ensures nothing { IfErr result (λ fault. fault ≢ NotAnswered.Device
         → Keeps (W.contents output.old) (W.contents output.new)) }
 {
-    let text = find_text_in_files(alloc, form, root, query, limits, files, stated, manifest)?;
-    match write_document(output, form, &text) {
-        Ok(()) => Ok(()),
+    let found = find_text_in_files(
+        alloc, arena, form, root, query, limits, files, stated, manifest,
+    )?;
+    match write_document(output, form, &found.text) {
+        Ok(()) => Ok(found.nodes),
         Err(_) => Err(NotAnswered::Device),
     }
 }
 
-/// The text that the query's objects have in the form.
-fn find_text_in_files<F: ReadAt + Drop>(
+/// The text that the query's objects have in the form, and the nodes that were read.
+fn find_text_in_files<'a, F: ReadAt + Drop>(
     alloc: Global,
+    arena: &'a Bump,
     form: Form,
     root: &Digest,
     query: &[u8],
@@ -83,12 +91,12 @@ fn find_text_in_files<F: ReadAt + Drop>(
     files: F,
     stated: &Digest,
     manifest: Place,
-) -> Result<Vec<u8>, NotAnswered>
+) -> Result<FoundText<'a, F>, NotAnswered>
     ensures right { (p : Publication) → IsPublication p → root.now.0 ≡ root_of p
-        → IfOk result (λ text. IsRight p form query.now text.items) }
+        → IfOk result (λ found. IsRight p form query.now (HasBrought found.nodes) found.text.items) }
     ensures rooted { IfOk result (λ _. (found : Manifest) × (digest_word (manifest_bytes found) ≡ root.now.0)) }
     ensures budget { (p : Publication) → IsPublication p → root.now.0 ≡ root_of p
-        → ¬ Clash (IsNodeOf p) (λ _. ⊤)
+        → ¬ HaveSecondPreimage (IsNodeOf p)
         → KeepsBudget (IsWorkOf (form_text form) p query.now) limits.work result }
     ensures limited { limits.work ≡ None → result ≢ Err NotAnswered.Work }
     ensures refused { IfErr result (ExplainsInFiles query.now root.now.0 stated.now.0) }
@@ -106,5 +114,5 @@ fn find_text_in_files<F: ReadAt + Drop>(
         Ok(source) => source,
         Err(fault) => return Err(fault_of_pack(fault)),
     };
-    answer_text(alloc, form, root, &query, limits, source)
+    text_found(alloc, arena, form, root, &query, limits, source)
 }

@@ -8,12 +8,15 @@
 mod answer_text;
 mod bounded_pack;
 mod files_query;
+mod found_text;
+mod limits;
 mod not_answered;
 mod pack_command;
 mod query_command;
 
 pub use bounded_pack::pack_within;
 pub use files_query::query_files;
+pub use limits::Limits;
 pub use not_answered::NotAnswered;
 pub use pack_command::pack;
 pub use query_command::query;

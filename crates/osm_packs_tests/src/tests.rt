@@ -1,6 +1,7 @@
 //! The commands over four objects and their pack.
 
 mod adding;
+mod asking;
 mod compacting;
 mod failing_pack;
 mod files_querying;

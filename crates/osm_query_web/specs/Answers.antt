@@ -1,6 +1,7 @@
 -- What a call hands over: the document of an answer, or a table of what is missing of the pack; and why it hands over nothing.
 -- Source: this project.
 use Rattle.std.specs.Prelude.{◌≡◌, ◌≢◌, ◌⊎◌, ℕ, List}
+use Rattle.tree_node.specs.Nodes.{AreBytes}
 use Rattle.osm_forms.specs.Documents.{document_in}
 use Rattle.osm_forms.specs.declared.form.Form.{Form}
 use Rattle.osm_forms.specs.declared.form.Form.TheVariants as forms
@@ -29,9 +30,9 @@ pub record IsDocumentOf (p : Publication) (form : Form) (query document : List �
   pub is_text : IsTextOf p form query text
   pub document_is : document ≡ document_in form text
 
--- it is the right document, unless a node that the query needs and other bytes have one digest
+-- it is the right document, unless a node that the query needs and another byte string have one digest
 abbrev pub IsAnswerOf : Publication → Form → (query document : List ℕ) → Type 0
-IsAnswerOf p form query document = IsDocumentOf p form query document ⊎ Clashes p query
+IsAnswerOf p form query document = IsDocumentOf p form query document ⊎ Clashes p query AreBytes
 
 -- The query reads, and this is the table of parts of the pack that are to be fetched for it: the pack has so many bytes, and
 -- pieces of it stand in these spans.

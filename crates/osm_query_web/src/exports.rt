@@ -56,8 +56,8 @@ pub extern "C" fn osm_query_answer(
     len: &mut u64,
 ) -> u32
     // The headline: whatever the pieces hold, under the root of any publication a yes says that what was handed over is the
-    // document of the query's meaning over its set in this form, unless a node that the query needs and other bytes have one
-    // digest.
+    // document of the query's meaning over its set in this form, unless a node that the query needs and another byte string
+    // have one digest.
     ensures headline { (p : Publication) (asked : Form) → IsPublication p → root.now ≡ root_of p
         → form_number asked ≡ form → result ≡ YES
         → IsAnswerOf p asked query.now (take len.new room.new) }
@@ -127,8 +127,8 @@ pub extern "C" fn osm_query_answer_in_files(
     len: &mut u64,
 ) -> u32
     // The headline: whatever the pieces hold, under the root of any publication a yes says that what was handed over is the
-    // document of the query's meaning over its set in this form, unless a node that the query needs and other bytes have one
-    // digest.
+    // document of the query's meaning over its set in this form, unless a node that the query needs and another byte string
+    // have one digest.
     ensures headline { (p : Publication) (asked : Form) → IsPublication p → root.now ≡ root_of p
         → form_number asked ≡ form → result ≡ YES
         → IsAnswerOf p asked query.now (take len.new room.new) }

@@ -1,26 +1,19 @@
 -- What the outcome of an evaluation says of an answer, whatever the shelf may hold.
 use Rattle.std.proofs.Common.{List, ℕ, ◌⊎◌, inl, inr, Option, Some, None, Ok, Err}
-use Rattle.std.specs.Prelude.{⊤}
 use Rattle.tree_node.specs.Outcomes.{Cause, Clash, Outcome, ShelfUse}
 use Rattle.outside_shelf.specs.declared.refused.Refused.{Refused}
-use Rattle.osm_keys.specs.Publications.{Publication}
-use Rattle.ql_eval.specs.Work.{HasNoClash, IsNodeOf}
 use Rattle.ql_eval.specs.Work as evaluation
 use Rattle.ql_eval.specs.declared.fault.EvalFault.{EvalFault}
 use Rattle.ql_eval.specs.declared.fault.EvalFault.TheVariants as faults
 use Rattle.outside_answer.specs.Answers.{KeepsBudget, fault_told}
 
--- what was given is as it should be, or a needed node and other bytes clash
+-- what was given is as it should be, or a needed node and a different used one clash
 pub ok_is : {A F : Type 0} (cause : F → Cause) (Is : A → Type 0) (needed : List ℕ → Type 0) (shelf : ShelfUse) (value : A)
-    → Outcome cause Is needed shelf (Ok value) → Is value ⊎ Clash needed (λ _. ⊤)
+    → Outcome cause Is needed shelf (Ok value) → Is value ⊎ Clash needed shelf.after
 ok_is cause Is needed shelf value so = elim so.ends [
-  | inl clash ↦ inr (clash.0, clash.1, clash.2, tt, clash.4, clash.5)
+  | inl clash ↦ inr clash
   | inr ends ↦ inl ends.0
 ]
-
--- where no node of a publication and other bytes clash, none clashes with a used one
-pub no_clash : (p : Publication) (used : List ℕ → Type 0) → ¬ Clash (IsNodeOf p) (λ _. ⊤) → HasNoClash p used
-no_clash p used none clash = none (clash.0, clash.1, clash.2, tt, clash.4, clash.5)
 
 -- an evaluation that keeps a budget keeps it as an answer, whatever the source's reason is
 pub err_keeps : (Work : ℕ → Type 0) (most : Option ℕ) (fault : EvalFault) (reason : Option Refused)

@@ -3,7 +3,8 @@
 use bumpalo::Bump;
 use node_pack::PackSource;
 use osm_forms::Form;
-use outside_answer::{Limits, answer_from};
+use outside_answer::answer_from;
+use outside_shelf::OutsideShelf;
 use ql_syntax::parse;
 use std::test::Fail;
 use tree_node::Digest;
@@ -38,25 +39,20 @@ pub(crate) const ANSWERS: [(&str, &str); 7] = [
 #[test]
 fn answers_from_a_pack(rt: HostRuntime) -> Result<(), Fail> {
     let alloc = rt.alloc();
-    let limits = Limits {
-        bytes: None,
-        work: None,
-    };
     for (text, expected) in ANSWERS {
         let arena = Bump::new(alloc);
         let query = parse(alloc, text.as_bytes())?;
         let source = PackSource::open(alloc, PACK)?;
         assert!(rt; source.root() == ROOT);
         let mut answer = Vec::new(alloc);
-        let form = Form::Opl;
+        let mut shelf = OutsideShelf::new(alloc, &arena, source, None);
         let told = answer_from(
             alloc,
-            &arena,
-            source,
+            &mut shelf,
             &query,
             &ROOT,
-            form,
-            limits,
+            Form::Opl,
+            None,
             &mut answer,
         );
         assert!(rt; told.is_ok(), "{text}");

@@ -6,8 +6,8 @@ use node_pack::{PackSource, ReadAt};
 use opl_codec::read_set;
 use osm_forms::Form;
 use osm_index::{Edition, Snapshot};
-use outside_answer::{AnswerFault, Limits, answer_from};
-use outside_shelf::Refused;
+use outside_answer::{AnswerFault, answer_from};
+use outside_shelf::{OutsideShelf, Refused};
 use pack_devices::{Remote, Seen, pack_of};
 use ql_eval::EvalFault;
 use ql_syntax::parse;
@@ -15,11 +15,6 @@ use std::alloc::Global;
 use std::process::Abort;
 use std::test::Fail;
 use tree_node::{Digest, Shelf};
-
-const NO_LIMITS: Limits = Limits {
-    bytes: None,
-    work: None,
-};
 
 /// Writes the answer to a query over a pack.
 fn answer<F: ReadAt + Drop>(
@@ -32,16 +27,8 @@ fn answer<F: ReadAt + Drop>(
     let arena = Bump::new(alloc);
     let query = parse(alloc, text.as_bytes())?;
     let source = PackSource::open(alloc, file)?;
-    let told = answer_from(
-        alloc,
-        &arena,
-        source,
-        &query,
-        root,
-        Form::Opl,
-        NO_LIMITS,
-        into,
-    );
+    let mut shelf = OutsideShelf::new(alloc, &arena, source, None);
+    let told = answer_from(alloc, &mut shelf, &query, root, Form::Opl, None, into);
     Ok(told.map(|_| ()))
 }
 

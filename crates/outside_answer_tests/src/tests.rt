@@ -5,8 +5,8 @@ use opl_codec::read_set;
 use osm_forms::Form;
 use osm_index::{Edition, Snapshot};
 use osm_prove::{prove, read_proof};
-use outside_answer::{AnswerFault, Limits, answer_from};
-use outside_shelf::{NodeSource, Refused, SourceFault};
+use outside_answer::{AnswerFault, answer_from};
+use outside_shelf::{NodeSource, OutsideShelf, Refused, SourceFault};
 use ql_eval::{EvalFault, Report};
 use ql_syntax::parse;
 use std::alloc::Global;
@@ -29,6 +29,13 @@ const QUERIES: [&str; 6] = [
     "node[highway][!name];out ids;",
     "(node(1);way(10););out ids;",
 ];
+
+/// How many bytes the source may give, and how much work the evaluation may do.
+#[derive(Clone, Copy, Debug)]
+struct Limits {
+    bytes: Option<u64>,
+    work: Option<u64>,
+}
 
 const NO_LIMITS: Limits = Limits {
     bytes: None,
@@ -95,7 +102,8 @@ fn answered(
         nodes: snapshot.stock().shelf(alloc),
         turned,
     };
-    Ok(answer_from(alloc, &arena, source, &query, root, Form::Opl, limits, sink))
+    let mut shelf = OutsideShelf::new(alloc, &arena, source, limits.bytes);
+    Ok(answer_from(alloc, &mut shelf, &query, root, Form::Opl, limits.work, sink))
 }
 
 /// From a source that has all nodes comes the answer that a mirror gives.

@@ -1,7 +1,6 @@
--- What the outcome of an evaluation says, where no node of the publication and other bytes clash.
+-- What the outcome of an evaluation says, where no node of the publication and a used one clash.
 use Rattle.std.proofs.Common.{ℕ, List, inl, inr, Result}
-use Rattle.std.specs.Prelude.{⊤}
-use Rattle.tree_node.specs.Outcomes.{Cause, Clash, EndsBy, Outcome, ShelfUse}
+use Rattle.tree_node.specs.Outcomes.{Cause, EndsBy, Outcome, ShelfUse}
 use Rattle.osm_keys.specs.Publications.{Publication}
 use Rattle.ql_syntax.specs.Statements.{Statements}
 use Rattle.ql_eval.specs.Asks.{IsNeeded}
@@ -13,13 +12,9 @@ askable p statements x (inl manifest) = inl manifest
 askable p statements x (inr needed) = inr (record { ask = needed.ask; asked = tt; needs = needed.needs })
 
 -- no clash is left to speak of
-pub ends_by : (p : Publication) (statements : Statements) {A F : Type 0} (cause : F → Cause) (Is : A → Type 0) (shelf : ShelfUse) (result : Result A F) → ¬ Clash (IsNodeOf p) (λ _. ⊤)
+pub ends_by : (p : Publication) (statements : Statements) {A F : Type 0} (cause : F → Cause) (Is : A → Type 0) (shelf : ShelfUse) (result : Result A F) → HasNoClash p shelf.after
     → Outcome cause Is (IsNeeded p statements) shelf result → EndsBy cause Is (IsNeeded p statements) shelf result
 ends_by p statements cause Is shelf result none so = elim so.ends [
-  | inl clash ↦ absurd (none (clash.0, clash.1, askable p statements clash.0 clash.2, tt, clash.4, clash.5))
+  | inl clash ↦ absurd (none (clash.0, clash.1, askable p statements clash.0 clash.2, clash.3, clash.4, clash.5))
   | inr ends ↦ ends
 ]
-
--- none of a used node either
-pub no_clash : (p : Publication) (used : List ℕ → Type 0) → ¬ Clash (IsNodeOf p) (λ _. ⊤) → HasNoClash p used
-no_clash p used none clash = none (clash.0, clash.1, clash.2, tt, clash.4, clash.5)

@@ -1,8 +1,8 @@
 //! Queries, evaluated over nodes that a shelf gives.
 
-ghost use Rattle.std.specs.Prelude.{◌≡◌, ◌≢◌, Err, IfErr, IfOk, None, OnOk, ⊤};
+ghost use Rattle.std.specs.Prelude.{◌≡◌, ◌≢◌, Err, IfErr, IfOk, None, OnOk};
 ghost use Rattle.tree_node.specs.Digests.{digest as digest_word};
-ghost use Rattle.tree_node.specs.Outcomes.{Clash, GrownByAll, RefusedFor};
+ghost use Rattle.tree_node.specs.Outcomes.{GrownByAll, RefusedFor};
 ghost use Rattle.osm_forms.specs.Forms.{form_text};
 ghost use Rattle.osm_forms.specs.declared.form.Form.TheVariants.{Opl};
 ghost use Rattle.osm_keys.specs.Manifests.{manifest_bytes};
@@ -12,7 +12,7 @@ ghost use Rattle.ql_syntax.specs.StatementViews.{statements_of};
 ghost use Rattle.ql_meaning.specs.Meanings.{Means};
 ghost use Rattle.ql_eval.specs.Asks.{IsNeeded};
 ghost use Rattle.ql_eval.specs.Faults.{cause_of_evaluation};
-ghost use Rattle.ql_eval.specs.Work.{IsNodeOf, WorkOfQuery};
+ghost use Rattle.ql_eval.specs.Work.{HasNoClash, WorkOfQuery};
 ghost use Rattle.osm_prove.specs.Budgets.{IsTooMuch, IsWithinBudget};
 ghost use Rattle.outside_proof.specs.Faults.{fault_told, source_told};
 
@@ -35,22 +35,22 @@ pub(crate) fn evaluate_over<'a, S: Shelf<'a>>(
     most: Option<u64>,
 ) -> Result<Vec<u8>, EvalFault>
     ensures means { (p : Publication) → IsPublication p → root.now.0 ≡ root_of p
-        → ¬ Clash (IsNodeOf p) (λ _. ⊤)
+        → HasNoClash p (S.used shelf.new)
         → IfOk result (λ answer. Means p.objects (statements_of query.now) answer.items) }
     ensures needed { (p : Publication) → IsPublication p → root.now.0 ≡ root_of p
-        → ¬ Clash (IsNodeOf p) (λ _. ⊤)
+        → HasNoClash p (S.used shelf.new)
         → OnOk result (GrownByAll (S.used shelf.old) (S.used shelf.new) (IsNeeded p (statements_of query.now))) }
     ensures rooted { OnOk result ((found : Manifest) × (digest_word (manifest_bytes found) ≡ root.now.0)) }
     ensures only { (p : Publication) → IsPublication p → root.now.0 ≡ root_of p
-        → ¬ Clash (IsNodeOf p) (λ _. ⊤)
+        → HasNoClash p (S.used shelf.new)
         → IfErr result (λ fault. RefusedFor (IsNeeded p (statements_of query.now)) (S.holds shelf.new)
         (cause_of_evaluation fault)) }
     ensures limited { most ≡ None → result ≢ Err EvalFault.Work }
     ensures within { (p : Publication) → IsPublication p → root.now.0 ≡ root_of p
-        → ¬ Clash (IsNodeOf p) (λ _. ⊤)
+        → HasNoClash p (S.used shelf.new)
         → OnOk result (IsWithinBudget (WorkOfQuery (form_text Opl) p (statements_of query.now)) most) }
     ensures too_much { (p : Publication) → IsPublication p → root.now.0 ≡ root_of p
-        → ¬ Clash (IsNodeOf p) (λ _. ⊤)
+        → HasNoClash p (S.used shelf.new)
         → result ≡ Err EvalFault.Work
         → IsTooMuch (WorkOfQuery (form_text Opl) p (statements_of query.now)) most }
 {

@@ -1,8 +1,7 @@
 //! An answer and its proof, as a mirror makes them of nodes that a shelf gives.
 
-ghost use Rattle.std.specs.Prelude.{◌≡◌, ◌≢◌, Err, IfErr, IfOk, None, OnOk, ⊤};
+ghost use Rattle.std.specs.Prelude.{◌≡◌, ◌≢◌, Err, IfErr, IfOk, None, OnOk};
 ghost use Rattle.tree_node.specs.Digests.{digest as digest_word};
-ghost use Rattle.tree_node.specs.Outcomes.{Clash};
 ghost use Rattle.tree_node.specs.Shelves.{IsEmptySet};
 ghost use Rattle.osm_forms.specs.Forms.{form_text};
 ghost use Rattle.osm_forms.specs.declared.form.Form.TheVariants.{Opl};
@@ -11,7 +10,7 @@ ghost use Rattle.osm_keys.specs.Publications.{IsPublication, Publication, root_o
 ghost use Rattle.osm_keys.specs.declared.manifest.Manifest.{Manifest};
 ghost use Rattle.ql_syntax.specs.StatementViews.{statements_of};
 ghost use Rattle.ql_meaning.specs.Meanings.{Means};
-ghost use Rattle.ql_eval.specs.Work.{IsNodeOf, WorkOfQuery};
+ghost use Rattle.ql_eval.specs.Work.{HasNoClash, WorkOfQuery};
 ghost use Rattle.osm_prove.specs.Proved.{IsProofOf};
 ghost use Rattle.outside_proof.specs.Budgets.{KeepsBudget};
 ghost use Rattle.outside_proof.specs.Listings.{ListsRising};
@@ -39,8 +38,8 @@ pub struct AnswerAndProof {
 /// copied once, into it. Of what the shelf gives nothing is assumed but what its type keeps: a node that it gives has the
 /// digest that was asked.
 ///
-/// Under the root of a publication answer and proof are those of [`osm_prove::prove_within`], unless two different byte strings
-/// have one digest.
+/// Under the root of a publication answer and proof are those of [`osm_prove::prove_within`], unless two different nodes have
+/// one digest.
 ///
 /// # Errors
 ///
@@ -56,9 +55,9 @@ pub fn prove_over<'a, S: ProofShelf<'a>>(
 ) -> Result<AnswerAndProof, OutsideFault>
     requires unused { IsEmptySet (S.used shelf.old) }
     // Under the root of any publication: what is given is the query's meaning over its set, and the one proof, unless a node of
-    // the publication and other bytes have one digest.
+    // the publication and a different one that the shelf used have one digest.
     ensures proved { (p : Publication) → IsPublication p → root.now.0 ≡ root_of p
-        → ¬ Clash (IsNodeOf p) (λ _. ⊤)
+        → HasNoClash p (S.used shelf.new)
         → IfOk result (λ both. Means p.objects (statements_of query.now) both.answer.items
         × IsProofOf p (statements_of query.now) both.proof.items) }
     // Whatever the root is of, the proof lists nodes by rising digest,
@@ -67,7 +66,7 @@ pub fn prove_over<'a, S: ProofShelf<'a>>(
     ensures rooted { OnOk result ((found : Manifest) × (digest_word (manifest_bytes found) ≡ root.now.0)) }
     // Under the root of a publication it is refused for memory, for the budget or for a node that wasn't given alone.
     ensures only { (p : Publication) → IsPublication p → root.now.0 ≡ root_of p
-        → ¬ Clash (IsNodeOf p) (λ _. ⊤)
+        → HasNoClash p (S.used shelf.new)
         → IfErr result IsFromOutside }
     // Whatever the root is of, a source's reason isn't memory, and a fault of the nodes is one.
     ensures named { IfErr result IsNamed }
@@ -75,7 +74,7 @@ pub fn prove_over<'a, S: ProofShelf<'a>>(
     ensures limited { most ≡ None → result ≢ Err OutsideFault.Work }
     // It is answered only where its work is within the budget, and refused for the budget only where it is too much.
     ensures budget { (p : Publication) → IsPublication p → root.now.0 ≡ root_of p
-        → ¬ Clash (IsNodeOf p) (λ _. ⊤)
+        → HasNoClash p (S.used shelf.new)
         → KeepsBudget (WorkOfQuery (form_text Opl) p (statements_of query.now)) most result }
 {
     let answer = match evaluate_over(alloc, query, root, shelf, most) {

@@ -7,12 +7,16 @@
 
 mod bound;
 mod copies;
+mod laws;
+mod node_stock;
 mod outside;
 mod proof_shelf;
 mod refused;
 mod source;
 mod stocked;
 
+pub use laws::bytes_law;
+pub use node_stock::NodeStock;
 pub use outside::OutsideShelf;
 pub use proof_shelf::ProofShelf;
 pub use refused::Refused;

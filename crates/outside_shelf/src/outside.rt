@@ -4,12 +4,14 @@ ghost use Rattle.std.specs.Option.{ForSome};
 ghost use Rattle.std.specs.Prelude.{◌≡◌, ◌≤◌, ◌<◌, ◌+◌, ◌⊎◌, ◌≢◌, ℕ, List, Err, IfErr, IfOk, IfSome, None, OnErr, OnOk, Some, false, length, min, true};
 ghost use Rattle.tree_node.specs.Digests.{digest as digest_word};
 ghost use Rattle.tree_node.specs.Fetches.{GivesNode};
+ghost use Rattle.tree_node.specs.Nodes.{AreBytes};
 ghost use Rattle.tree_node.specs.Parts.{HaveNode, HaveRisingDigests, node_of};
 ghost use Rattle.tree_node.specs.Shelves.{GrownBy, HasNone, IsEmptySet, SameNodes, Stays};
 ghost use Rattle.outside_shelf.specs.Brought.{HasRoomFor, brought_at, brought_len};
 ghost use Rattle.outside_shelf.specs.Reasons.{shelf_fault_of};
 
 use crate::bound::Bound;
+use crate::laws::bytes_law;
 use crate::refused::Refused;
 use crate::source::NodeSource;
 use bumpalo::Bump;
@@ -29,6 +31,7 @@ pub struct OutsideShelf<'a, N: NodeSource + Drop> {
     bound: Option<Bound>,
     refused: Option<Refused>,
     ghost own: { (key : _) → ForSome (brought_at brought key) (λ node. digest_word node ≡ key.0) },
+    ghost bytes: { (key : _) → ForSome (brought_at brought key) (λ node. AreBytes node) },
     ghost within: { ForSome bound (λ bound. brought_len brought + bound.left ≤ bound.most) },
 }
 
@@ -110,7 +113,10 @@ impl<'a, N: NodeSource + Drop> OutsideShelf<'a, N> {
         }
         self.read(key)?;
         match self.arena.try_alloc_slice_copy(self.buffer.as_slice()) {
-            Ok(bytes) => self.remember(key, Part::new(bytes)),
+            Ok(bytes) => {
+                bytes_law(bytes);
+                self.remember(key, Part::new(bytes))
+            }
             Err(_) => Err(Refused::Memory),
         }
     }
@@ -165,6 +171,7 @@ impl<'a, N: NodeSource + Drop> OutsideShelf<'a, N> {
     fn remember(&mut self, key: &Digest, part: Part<'a>) -> Result<&'a [u8], Refused>
         requires fresh { HasNone (HasBrought self.old) key.now.0 }
         requires room { HasRoomFor self.old.bound self.old.brought (node_of part) }
+        requires bytes { AreBytes (node_of part) }
         ensures node { IfOk result (λ node. node.now ≡ node_of part.entry) }
         ensures own { OnOk result (digest_word (node_of part.entry) ≡ key.now.0) }
         ensures grown { OnOk result (GrownBy (HasBrought self.old) (HasBrought self.new) (node_of part.entry)) }

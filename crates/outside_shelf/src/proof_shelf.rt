@@ -1,6 +1,7 @@
 //! Shelves of which proofs are made.
 
-ghost use Rattle.std.specs.Prelude.{IfOk};
+ghost use Rattle.std.specs.Prelude.{ℕ, IfOk, List};
+ghost use Rattle.tree_node.specs.Nodes.{AreBytes};
 ghost use Rattle.tree_node.specs.Parts.{HaveNode, HaveRisingDigests};
 ghost use Rattle.tree_node.specs.Shelves.{SameNodes};
 
@@ -22,9 +23,16 @@ pub trait ProofShelf<'a>: Shelf<'a> {
 
     /// Why the node that was asked for last wasn't given; none where it was, and where nobody knows.
     fn reason(&self) -> Option<Refused>;
+
+    /// The nodes that were used are byte strings.
+    ghost used_bytes: { (shelf : Self) (node : List ℕ) → Self.Shelf.used shelf node → AreBytes node };
 }
 
 impl<'a, N: NodeSource + Drop> ProofShelf<'a> for OutsideShelf<'a, N> {
+    ghost use Rattle.tree_node.specs.Keys.{key_of};
+
+    ghost used_bytes = { λ shelf node is. shelf.bytes (key_of node) node is };
+
     fn used_parts(&self, alloc: Global) -> Result<Vec<Part<'a>>, AllocError> {
         self.parts(alloc)
     }
@@ -35,6 +43,14 @@ impl<'a, N: NodeSource + Drop> ProofShelf<'a> for OutsideShelf<'a, N> {
 }
 
 impl<'a, N: NodeSource + Drop> ProofShelf<'a> for StockedShelf<'a, N> {
+    ghost use Rattle.tree_node.specs.Keys.{key_of, lent_at, owned_at};
+    ghost use Rattle.tree_node.specs.internal.RecorderLaws.{given_held};
+    ghost use Rattle.outside_shelf.specs.internal.StockedLaws.{bytes_together};
+
+    ghost used_bytes = { λ shelf. bytes_together (λ node is. shelf.stocked node
+        (given_held (owned_at shelf.recorder.stock.now.nodes) (lent_at shelf.recorder.given) shelf.recorder.own node is))
+        (λ node is. shelf.outside.bytes (key_of node) node is) };
+
     fn used_parts(&self, alloc: Global) -> Result<Vec<Part<'a>>, AllocError> {
         self.list_used(alloc)
     }

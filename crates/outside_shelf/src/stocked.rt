@@ -3,6 +3,7 @@
 ghost use Rattle.std.specs.Prelude.{◌≡◌, ℕ, List, Err, IfErr, IfOk, None, OnErr, OnOk, false, length, min, true};
 ghost use Rattle.tree_node.specs.Digests.{digest as digest_word};
 ghost use Rattle.tree_node.specs.Fetches.{GivesNode};
+ghost use Rattle.tree_node.specs.Nodes.{AreBytes};
 ghost use Rattle.tree_node.specs.Parts.{HaveNode, HaveRisingDigests};
 ghost use Rattle.tree_node.specs.Recorders.{RecorderHolds};
 ghost use Rattle.tree_node.specs.Shelves.{GrownBy, HasNone, IsEmptySet, SameNodes, Stays};
@@ -10,12 +11,13 @@ ghost use Rattle.outside_shelf.specs.Copies.{HaveCopy, HaveRisingKeys};
 ghost use Rattle.outside_shelf.specs.Shelves.{CostsFor, HasBrought, KeepsBound, Spends, last_read, left_of, most_of, total_brought};
 
 use crate::copies::copies;
+use crate::node_stock::NodeStock;
 use crate::outside::OutsideShelf;
 use crate::refused::Refused;
 use crate::source::NodeSource;
 use bumpalo::Bump;
 use std::alloc::{AllocError, Global};
-use tree_node::{Digest, Fetched, NewNode, NodeRef, Part, Recorder, Shelf, ShelfFault, Stock};
+use tree_node::{Digest, Fetched, NewNode, NodeRef, Part, Recorder, Shelf, ShelfFault};
 
 /// A shelf over the nodes of a stock, which were digested before, and over a source for those that the stock hasn't. The source
 /// is never asked for a node of the stock. What it brings lies in an arena, as in an [`OutsideShelf`]; so it can be kept in the
@@ -27,10 +29,11 @@ pub struct StockedShelf<'a, N: NodeSource + Drop> {
     refused: Option<Refused>,
     ghost apart: { (node : List ℕ) → HasBrought outside node
         → HasNone (RecorderHolds recorder) (digest_word node) },
+    ghost stocked: { (node : List ℕ) → RecorderHolds recorder node → AreBytes node },
 }
 
 impl<'a, N: NodeSource + Drop> StockedShelf<'a, N> {
-    ghost use Rattle.tree_node.specs.Stocks.{HasNode};
+    ghost use Rattle.outside_shelf.specs.NodeStocks.{HasKept};
     ghost use Rattle.outside_shelf.specs.StockedShelves.{HasStocked, StockedHolds, StockedUsed, outside_of, reason_in};
     ghost use Rattle.outside_shelf.specs.StockedShelves.{StockedTells};
 
@@ -39,14 +42,14 @@ impl<'a, N: NodeSource + Drop> StockedShelf<'a, N> {
     /// it needs later comes from `alloc`, and the nodes that the source brings lie in the arena.
     pub fn new(
         alloc: Global,
-        stock: &'a Stock,
+        stock: &'a NodeStock,
         arena: &'a Bump,
         source: N,
         most: Option<u64>,
     ) -> StockedShelf<'a, N>
         // It holds just the nodes of the stock, and nothing is used.
-        ensures holds { SameNodes (HasNode stock.now) (StockedHolds result) }
-        ensures stocked { SameNodes (HasNode stock.now) (HasStocked result) }
+        ensures holds { SameNodes (HasKept stock.now) (StockedHolds result) }
+        ensures stocked { SameNodes (HasKept stock.now) (HasStocked result) }
         ensures unused { IsEmptySet (StockedUsed result) }
         // All of the bound is left, and no reason is told.
         ensures most { most_of (outside_of result) ≡ most }

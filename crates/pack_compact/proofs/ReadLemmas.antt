@@ -7,7 +7,7 @@ use Rattle.osm_keys.specs.Manifests.{manifest}
 use Rattle.osm_keys.specs.Publications.{IsNodeIn, Publication}
 use Rattle.osm_keys.specs.declared.edition.Edition.{Edition}
 use Rattle.tree_node.specs.Digests.{digest}
-use Rattle.tree_node.specs.Nodes.{Binding, Inner, IsNode, Leaf, Link, Node, Spells, spelling}
+use Rattle.tree_node.specs.Nodes.{AreBytes, Binding, Inner, IsNode, Leaf, Link, Node, Spells, spelling}
 use Rattle.tree_node.specs.Trees.{link_to, links_in}
 use Rattle.tree_node.specs.declared.tree.Tree.{Tree}
 use Rattle.tree_node.proofs.shared.NodeLaws.{node_again}
@@ -22,13 +22,14 @@ use Rattle.outside_shelf.specs.declared.refused.Refused.{Refused}
 use Rattle.pack_compact.specs.Compacting.{IsOfDevice}
 use Rattle.pack_compact.specs.declared.fault.CompactFault.{CompactFault}
 use Rattle.pack_compact.specs.declared.fault.CompactFault.TheVariants as faults
-use Rattle.pack_compact.specs.internal.Copying.{AreHeld, CanCopy, HasTwin, Holding, IsFailure, IsPlaceOf, IsRecordOf, IsTakenTo}
+use Rattle.pack_update.specs.Adding.{HasSecondPreimage}
+use Rattle.pack_compact.specs.internal.Copying.{AreHeld, CanCopy, Holding, IsFailure, IsPlaceOf, IsRecordOf, IsTakenTo}
 use Rattle.pack_compact.specs.internal.Trees.{BelowEach, IsOver}
 
 -- bytes with the digest of a node of the publication are that node, or its twin
-pub same_or_twin : (p : Publication) (bytes mine key : List ℕ) → IsNodeIn p mine → digest bytes ≡ key → key ≡ digest mine → (bytes ≡ mine) ⊎ HasTwin p
-same_or_twin p bytes mine key is has key_is =
-    elim (same_or_not mine bytes) [ inl same ↦ inl (sym same) | inr other ↦ inr (mine, bytes, is, tt, other, sym (has ∙ key_is)) ]
+pub same_or_twin : (p : Publication) (bytes mine key : List ℕ) → IsNodeIn p mine → digest bytes ≡ key → AreBytes bytes → key ≡ digest mine → (bytes ≡ mine) ⊎ HasSecondPreimage p
+same_or_twin p bytes mine key is has of_bytes key_is =
+    elim (same_or_not mine bytes) [ inl same ↦ inl (sym same) | inr other ↦ inr (mine, bytes, is, inl of_bytes, other, sym (has ∙ key_is)) ]
 
 -- ---- the node
 

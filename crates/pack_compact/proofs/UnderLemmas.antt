@@ -8,6 +8,7 @@ use Rattle.osm_keys.specs.declared.manifest.Manifest.{Manifest}
 use Rattle.osm_keys.proofs.shared.OneManifest.{same_edition, same_tops, tops_wide}
 use Rattle.tree_node.specs.Digests.{digest}
 use Rattle.tree_node.specs.Keys.{digest_eq}
+use Rattle.tree_node.specs.Nodes.{AreBytes}
 use Rattle.tree_node.specs.declared.digest.Digest.{Digest}
 use Rattle.tree_node.specs.declared.tree.Tree.{Tree}
 use Rattle.tree_node.specs.declared.tree.Tree.TheVariants.{Backs, Cells, Objects, Tags}
@@ -16,7 +17,7 @@ use Rattle.node_pack.specs.WholeRecords.{IsRecordAt}
 use Rattle.node_pack.specs.declared.place.Place.{Place}
 use Rattle.node_pack.specs.declared.whole_record.Record.{Record}
 use Rattle.pack_files.specs.Joined.{joined}
-use Rattle.pack_update.specs.Adding.{IsRootOf}
+use Rattle.pack_update.specs.Adding.{HasSecondPreimage, IsRootOf}
 use Rattle.pack_update.specs.Files.{AreFilesOf}
 use Rattle.pack_build.specs.Trees.{IsUnpacked}
 use Rattle.pack_build.specs.declared.fault.BuildFault.{BuildFault}
@@ -26,13 +27,13 @@ use Rattle.pack_compact.specs.Compacting.{IsOutside, IsReason}
 use Rattle.pack_compact.specs.Faults.{fault_of_build}
 use Rattle.pack_compact.specs.declared.fault.CompactFault.{CompactFault}
 use Rattle.pack_compact.specs.declared.fault.CompactFault.TheVariants as faults
-use Rattle.pack_compact.specs.internal.Copying.{HasTops, HasTwin, Holding, IsFailure, IsRecordOf}
+use Rattle.pack_compact.specs.internal.Copying.{HasTops, Holding, IsFailure, IsRecordOf}
 
 -- ---- the manifest
 
 -- the bytes under the root are the manifest, or its twin
-pub manifest_or_twin : (p : Publication) (root bytes : List ℕ) → IsRootOf p root → digest bytes ≡ root → (bytes ≡ manifest_of p) ⊎ HasTwin p
-manifest_or_twin p root bytes is has = same_or_twin p bytes (manifest_of p) root (inl refl) has is.is
+pub manifest_or_twin : (p : Publication) (root bytes : List ℕ) → IsRootOf p root → digest bytes ≡ root → AreBytes bytes → (bytes ≡ manifest_of p) ⊎ HasSecondPreimage p
+manifest_or_twin p root bytes is has of_bytes = same_or_twin p bytes (manifest_of p) root (inl refl) has of_bytes is.is
 
 -- what it says
 pub record IsUnder (p : Publication) (m : Manifest) : Type 0 where

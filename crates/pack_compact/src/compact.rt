@@ -1,17 +1,16 @@
 //! Writing the pack of a publication that stands in files.
 
-ghost use Rattle.std.specs.Prelude.{◌≡◌, ◌≢◌, ◌⊎◌, ℕ, Err, IfErr, List, MatchResult, OnOk, Option, ⊤, true};
-ghost use Rattle.tree_node.specs.Outcomes.{Clash};
+ghost use Rattle.std.specs.Prelude.{◌≡◌, ◌≢◌, ◌⊎◌, ℕ, Err, IfErr, List, MatchResult, OnOk, Option, true};
 ghost use Rattle.tree_node.specs.declared.tree.Tree.{Tree as TreeWord};
 ghost use Rattle.osm_keys.specs.Manifests.{HasSequence, top_among};
-ghost use Rattle.osm_keys.specs.Publications.{IsNodeIn, IsPublication, Publication, top_in};
+ghost use Rattle.osm_keys.specs.Publications.{IsPublication, Publication, top_in};
 ghost use Rattle.pack_assembly.specs.Packing.{IsPacked};
 ghost use Rattle.pack_build.specs.Trees.{AreTreesOf};
 ghost use Rattle.pack_compact.specs.Compacting.{IsOutside, IsReason};
-ghost use Rattle.pack_compact.specs.internal.Copying.{AreHeld, HasTops, HasTwin, Holding, IsFailure};
+ghost use Rattle.pack_compact.specs.internal.Copying.{AreHeld, HasTops, Holding, IsFailure};
 ghost use Rattle.pack_compact.specs.declared.fault.CompactFault.TheVariants.{NoManifest};
 ghost use Rattle.pack_files.specs.Joined.{joined};
-ghost use Rattle.pack_update.specs.Adding.{IsRootOf};
+ghost use Rattle.pack_update.specs.Adding.{HasSecondPreimage, IsRootOf};
 ghost use Rattle.pack_update.specs.Faults.{IsNoManifest};
 ghost use Rattle.pack_update.specs.Files.{AreFilesOf};
 
@@ -55,18 +54,18 @@ pub fn compact_files<F: ReadAt, S: RunStore, M: StoreMaker<S> + Drop, W: Write>(
     memory: usize,
     pack: &mut W,
 ) -> Result<(), CompactFault>
-    // Under the root of a publication, whatever the files hold: what is written is its pack, unless one of its nodes and other bytes
-    // have one digest.
+    // Under the root of a publication, whatever the files hold: what is written is its pack, unless one of its nodes and another
+    // byte string have one digest.
     ensures safe { S.is_true ≡ true → (p : Publication) → IsRootOf p root.now.0
-        → OnOk result (IsPacked p (W.contents pack.old) (W.contents pack.new)) ⊎ Clash (IsNodeIn p) (λ _. ⊤) }
+        → OnOk result (IsPacked p (W.contents pack.old) (W.contents pack.new)) ⊎ HasSecondPreimage p }
     // Of files that have its nodes it is written, unless memory or a device fails, or it has no pack, with the same exception.
     ensures whole { S.is_true ≡ true → (p : Publication) (contents : List (List ℕ)) → IsRootOf p root.now.0
         → F.reads files.old (joined contents) → AreFilesOf contents p manifest
-        → IfErr result (IsOutside p) ⊎ Clash (IsNodeIn p) (λ _. ⊤) }
+        → IfErr result (IsOutside p) ⊎ HasSecondPreimage p }
     // Under the root of a publication each refusal has its reason, with the same exception,
     ensures refused { S.is_true ≡ true → (p : Publication) → IsRootOf p root.now.0
-        → IfErr result (IsReason p) ⊎ Clash (IsNodeIn p) (λ _. ⊤) }
-    // and where no manifest is told, other bytes have the root.
+        → IfErr result (IsReason p) ⊎ HasSecondPreimage p }
+    // and where no manifest is told, another byte string has the root.
     ensures no_manifest { result ≡ Err NoManifest → IsNoManifest root.now.0 }
     // Nothing is written but where a device or the writer fails.
     ensures untouched { IfErr result (λ fault. fault ≢ CompactFault.Device → fault ≢ CompactFault.NotWritten
@@ -100,7 +99,7 @@ fn copied_trees<F: ReadAt, S: RunStore, M: StoreMaker<S> + Drop>(
     ensures copied { (p : Publication) (known : Option Holding) → IsPublication p → manifest.now.edition ≡ p.edition
         → ((tree : TreeWord) → top_among manifest.now.tops tree ≡ top_in p tree) → HasTops p known «record».now
         → AreHeld (F.reads files.old) known
-        → MatchResult result (AreTreesOf p) (IsFailure known) ⊎ HasTwin p }
+        → MatchResult result (AreTreesOf p) (IsFailure known) ⊎ HasSecondPreimage p }
     ensures told { IfErr result (λ fault. fault ≢ NoManifest) }
 {
     let mut builder = TreesBuilder::new(alloc, shape_of(manifest.edition), makers);

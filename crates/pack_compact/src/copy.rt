@@ -3,7 +3,7 @@
 ghost use Rattle.std.specs.Prelude.{◌≡◌, ◌≢◌, ◌⊎◌, ◌+◌, ◌++◌, ◌<◌, [], ℕ, IfErr, IfOk, List, MatchResult, Option, true};
 ghost use Rattle.tree_node.specs.Digests.{digest};
 ghost use Rattle.tree_node.specs.NodeRefs.{number_of};
-ghost use Rattle.tree_node.specs.Nodes.{Binding, Node};
+ghost use Rattle.tree_node.specs.Nodes.{AreBytes, Binding, Node};
 ghost use Rattle.tree_node.specs.Trees.{HasTree};
 ghost use Rattle.tree_node.specs.declared.tree.Tree.{Tree as TreeWord};
 ghost use Rattle.osm_keys.specs.Manifests.{top_among};
@@ -11,8 +11,9 @@ ghost use Rattle.osm_keys.specs.Publications.{IsPublication, Publication, shape_
 ghost use Rattle.level_files.specs.Built.{HasEntries};
 ghost use Rattle.node_pack.specs.Packs.{node_in};
 ghost use Rattle.node_pack.specs.WholeRecords.{bytes_in};
+ghost use Rattle.pack_update.specs.Adding.{HasSecondPreimage};
 ghost use Rattle.pack_compact.specs.declared.fault.CompactFault.TheVariants.{NoManifest};
-ghost use Rattle.pack_compact.specs.internal.Copying.{AreHeld, CanCopy, HasTops, HasTwin, Holding};
+ghost use Rattle.pack_compact.specs.internal.Copying.{AreHeld, CanCopy, HasTops, Holding};
 ghost use Rattle.pack_compact.specs.internal.Copying.{IsFailure, IsPlaceOf, IsRecordOf, IsTakenTo};
 
 use crate::fault::CompactFault;
@@ -20,7 +21,7 @@ use external_sort::{RunStore, StoreMaker};
 use level_files::TreesBuilder;
 use node_pack::{Place, ReadAt, Record};
 use osm_keys::Manifest;
-use outside_shelf::Refused;
+use outside_shelf::{Refused, bytes_law};
 use std::alloc::Global;
 use tree_node::{Digest, Entries, LEVEL_LIMIT, NodeRef, Tree, digest_of};
 
@@ -32,12 +33,15 @@ pub(crate) fn read_node<F: ReadAt>(
     place: Place,
 ) -> Result<Record, CompactFault>
     ensures has_digest { IfOk result (λ whole. digest (node_in (bytes_in whole)) ≡ key.now.0) }
+    ensures bytes { IfOk result (λ whole. AreBytes (node_in (bytes_in whole))) }
     ensures ends { (known : Option Holding) → AreHeld (F.reads files.old) known → IsPlaceOf known key.now.0 place
         → MatchResult result (IsRecordOf known key.now.0) (IsFailure known) }
     ensures stays { (bytes : List ℕ) → F.reads files.old bytes → F.reads files.new bytes }
 {
     let record = Record::read(alloc, files, place)?;
-    if digest_of(record.node()) != *key {
+    let node = record.node();
+    bytes_law(node);
+    if digest_of(node) != *key {
         return Err(CompactFault::Source(Refused::Other));
     }
     Ok(record)
@@ -54,7 +58,7 @@ pub(crate) fn copy_trees<F: ReadAt, S: RunStore, M: StoreMaker<S>>(
     ensures copied { (p : Publication) (known : Option Holding) → IsPublication p
         → ((tree : TreeWord) → top_among manifest.now.tops tree ≡ top_in p tree) → HasTops p known «record».now
         → AreHeld (F.reads files.old) known → HasEntries builder.old (shape_in p) (λ tree. [])
-        → MatchResult result (λ _. HasEntries builder.new (shape_in p) p.entries) (IsFailure known) ⊎ HasTwin p }
+        → MatchResult result (λ _. HasEntries builder.new (shape_in p) p.entries) (IsFailure known) ⊎ HasSecondPreimage p }
     ensures told { IfErr result (λ fault. fault ≢ NoManifest) }
 {
     copy_tree(alloc, files, record, manifest, Tree::Objects, 0, builder)?;
@@ -77,7 +81,7 @@ fn copy_tree<F: ReadAt, S: RunStore, M: StoreMaker<S>>(
     ensures copied { (p : Publication) (known : Option Holding) (others : TreeWord → List Binding) → IsPublication p
         → number_of tree ≡ number + 1 → top_among manifest.now.tops tree ≡ top_in p tree → HasTops p known «record».now
         → AreHeld (F.reads files.old) known → IsTakenTo p others tree builder.old (p.entries tree)
-        → MatchResult result (λ _. IsTakenTo p others tree builder.new []) (IsFailure known) ⊎ HasTwin p }
+        → MatchResult result (λ _. IsTakenTo p others tree builder.new []) (IsFailure known) ⊎ HasSecondPreimage p }
     ensures told { IfErr result (λ fault. fault ≢ NoManifest) }
     ensures stays { (bytes : List ℕ) → F.reads files.old bytes → F.reads files.new bytes }
 {
@@ -106,7 +110,7 @@ fn copy_below<F: ReadAt, S: RunStore, M: StoreMaker<S>>(
         (level : ℕ) (node : Node) (entries left : List Binding)
         → HasTree (p.entries tree) → CanCopy p known key.now.0 place depth level node entries
         → AreHeld (F.reads files.old) known → IsTakenTo p others tree builder.old (entries ++ left)
-        → MatchResult result (λ _. IsTakenTo p others tree builder.new left) (IsFailure known) ⊎ HasTwin p }
+        → MatchResult result (λ _. IsTakenTo p others tree builder.new left) (IsFailure known) ⊎ HasSecondPreimage p }
     ensures told { IfErr result (λ fault. fault ≢ NoManifest) }
     ensures stays { (bytes : List ℕ) → F.reads files.old bytes → F.reads files.new bytes }
 {

@@ -3,14 +3,14 @@
 ghost use Rattle.pack_jobs.specs.Jobs.{IsQuery};
 
 use crate::server_querying::query_server;
+use bumpalo::Bump;
 use command_line::Job;
 use http_ranges::{Target, read_target};
 use node_pack::{PackFault, ReadAt};
 use osm_commands::{CommandFault, Status};
 use osm_forms::Form;
 use osm_pack_changes::manifest_place;
-use osm_packs::{NotAnswered, query, query_files};
-use outside_answer::Limits;
+use osm_packs::{Limits, NotAnswered, query, query_files};
 use outside_shelf::Refused;
 use pack_files::JoinedFiles;
 use pack_head::{Head, read_head};
@@ -47,15 +47,18 @@ impl Question<'_> {
         rt: &HostRuntime,
         pack: F,
     ) -> Result<(), NotAnswered> {
+        let arena = Bump::new(rt.alloc());
         query(
             rt.alloc(),
+            &arena,
             self.form,
             self.root,
             self.text.as_bytes(),
             self.limits,
             pack,
             &mut CleanOutput::new(rt),
-        )
+        )?;
+        Ok(())
     }
 
     /// Finds the answer in the files of a head, which are read as one, and prints it.
@@ -65,8 +68,10 @@ impl Question<'_> {
         head: &Head<'_>,
         files: Vec<F>,
     ) -> Result<(), NotAnswered> {
+        let arena = Bump::new(rt.alloc());
         query_files(
             rt.alloc(),
+            &arena,
             self.form,
             self.root,
             self.text.as_bytes(),
@@ -75,7 +80,8 @@ impl Question<'_> {
             &head.root,
             manifest_place(head),
             &mut CleanOutput::new(rt),
-        )
+        )?;
+        Ok(())
     }
 }
 

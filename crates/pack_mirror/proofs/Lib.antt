@@ -1,2 +1,3 @@
 mod Refusals
 mod RootLemmas
+mod UsedLemmas

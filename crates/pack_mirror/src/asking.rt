@@ -18,17 +18,17 @@ use crate::lent::Lent;
 use bumpalo::Bump;
 use node_pack::{PackSource, ReadAt};
 use outside_proof::{AnswerAndProof, OutsideFault, answer_over, prove_over};
-use outside_shelf::StockedShelf;
+use outside_shelf::{NodeStock, StockedShelf};
 use ql_syntax::Query;
 use std::alloc::Global;
-use tree_node::{Digest, Stock};
+use tree_node::Digest;
 
 /// The answer to a query under a root, from the nodes of a stock and from what a source gives now, and what is to be kept of
 /// the latter where there is so much room. What else it takes of memory goes back with the call.
 pub(crate) fn ask_answer<F: ReadAt + Drop>(
     alloc: Global,
     source: &mut PackSource<F>,
-    stock: &Stock,
+    stock: &NodeStock,
     query: &Query<'_>,
     root: &Digest,
     most: Option<u64>,
@@ -52,7 +52,7 @@ pub(crate) fn ask_answer<F: ReadAt + Drop>(
 pub(crate) fn ask_proof<F: ReadAt + Drop>(
     alloc: Global,
     source: &mut PackSource<F>,
-    stock: &Stock,
+    stock: &NodeStock,
     query: &Query<'_>,
     root: &Digest,
     most: Option<u64>,

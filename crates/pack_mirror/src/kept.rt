@@ -2,7 +2,6 @@
 
 ghost use Rattle.std.specs.Prelude.{◌≡◌, ◌≢◌, ◌≤◌, Err, IfErr, IfOk, IfSome, None};
 ghost use Rattle.tree_node.specs.Shelves.{IsEmptySet};
-ghost use Rattle.tree_node.specs.Stocks.{HasNode};
 ghost use Rattle.osm_forms.specs.Forms.{form_text};
 ghost use Rattle.osm_forms.specs.declared.form.Form.TheVariants.{Opl};
 ghost use Rattle.osm_keys.specs.Publications.{Publication};
@@ -11,6 +10,7 @@ ghost use Rattle.outside_proof.specs.Budgets.{KeepsBudget};
 ghost use Rattle.ql_eval.specs.Work.{WorkOfQuery};
 ghost use Rattle.ql_meaning.specs.Meanings.{Means};
 ghost use Rattle.ql_syntax.specs.StatementViews.{statements_of};
+ghost use Rattle.outside_shelf.specs.NodeStocks.{HasKept};
 ghost use Rattle.osm_gate.specs.declared.mirror_fault.MirrorFault.TheVariants.{Device};
 ghost use Rattle.pack_mirror.specs.Faults.{fault_of_answer};
 ghost use Rattle.pack_mirror.specs.Roots.{StandsFor};
@@ -19,9 +19,10 @@ use crate::asking::{ask_answer, ask_proof};
 use crate::gained::{Gained, entries_len};
 use node_pack::{PackSource, ReadAt};
 use outside_proof::{AnswerAndProof, OutsideFault};
+use outside_shelf::NodeStock;
 use ql_syntax::Query;
 use std::alloc::Global;
-use tree_node::{Digest, NewNode, Stock};
+use tree_node::{Digest, NewNode};
 
 /// The nodes of a pack: those that were kept of earlier queries, and the source of all others, which knows the places that it
 /// has learned since it was opened. What is kept was digested, so the stock has no node under a wrong digest, and what the
@@ -29,7 +30,7 @@ use tree_node::{Digest, NewNode, Stock};
 #[derive(Drop)]
 pub(crate) struct KeptNodes<F: ReadAt + Drop> {
     source: PackSource<F>,
-    stock: Stock,
+    stock: NodeStock,
     /// What the nodes of the stock count, or more: nodes count for which memory was refused at last.
     len: u64,
     /// What stock and places may count together.
@@ -42,7 +43,7 @@ impl<F: ReadAt + Drop> KeptNodes<F> {
     pub(crate) fn new(alloc: Global, source: PackSource<F>, limit: u64) -> KeptNodes<F> {
         KeptNodes {
             source,
-            stock: Stock::new(alloc),
+            stock: NodeStock::new(alloc),
             len: 0,
             limit,
         }
@@ -61,7 +62,7 @@ impl<F: ReadAt + Drop> KeptNodes<F> {
         ensures limited { most ≡ None → result ≢ Err OutsideFault.Work }
         // After a failed device no node is kept.
         ensures failed { IfErr result (λ fault. fault_of_answer fault ≡ Device
-            → IsEmptySet (HasNode self.new.stock)) }
+            → IsEmptySet (HasKept self.new.stock)) }
         ensures budget { (p : Publication) → StandsFor root.now p
             → KeepsBudget (WorkOfQuery (form_text Opl) p (statements_of query.now)) most result }
     {
@@ -93,7 +94,7 @@ impl<F: ReadAt + Drop> KeptNodes<F> {
         ensures limited { most ≡ None → result ≢ Err OutsideFault.Work }
         // After a failed device no node is kept.
         ensures failed { IfErr result (λ fault. fault_of_answer fault ≡ Device
-            → IsEmptySet (HasNode self.new.stock)) }
+            → IsEmptySet (HasKept self.new.stock)) }
         ensures budget { (p : Publication) → StandsFor root.now p
             → KeepsBudget (WorkOfQuery (form_text Opl) p (statements_of query.now)) most result }
     {
@@ -114,7 +115,7 @@ impl<F: ReadAt + Drop> KeptNodes<F> {
     /// Keeps these nodes too. Where there are none, or where they would be too many with the stock and the places, all is
     /// dropped.
     fn keep(&mut self, alloc: Global, more: Option<Gained>)
-        ensures { more ≡ None → IsEmptySet (HasNode self.new.stock) }
+        ensures { more ≡ None → IsEmptySet (HasKept self.new.stock) }
     {
         let Some(more) = more else {
             self.forget(alloc);
@@ -144,7 +145,7 @@ impl<F: ReadAt + Drop> KeptNodes<F> {
     /// Puts these nodes into the stock. Where memory is refused, this one and the later ones aren't put.
     fn put(&mut self, nodes: Vec<NewNode>) {
         for node in nodes {
-            if self.stock.put_new(node).is_err() {
+            if self.stock.put(node).is_err() {
                 return;
             }
         }
@@ -153,9 +154,9 @@ impl<F: ReadAt + Drop> KeptNodes<F> {
     /// Drops the stock and the places that the source has learned. Where memory is refused the places stay: they are hints, and
     /// the next query tries again if they are still too many.
     fn forget(&mut self, alloc: Global)
-        ensures { IsEmptySet (HasNode self.new.stock) }
+        ensures { IsEmptySet (HasKept self.new.stock) }
     {
-        self.stock = Stock::new(alloc);
+        self.stock = NodeStock::new(alloc);
         self.len = 0;
         match self.source.forget(alloc) {
             Ok(()) | Err(_) => {}

@@ -1,9 +1,9 @@
 //! A pack file as a mirror.
 
-ghost use Rattle.std.specs.Prelude.{◌≡◌, ◌⊎◌, IfErr, IfOk, List, Ok, length, take, ℕ, ⊤};
-ghost use Rattle.tree_node.specs.Outcomes.{Clash};
+ghost use Rattle.std.specs.Prelude.{◌≡◌, ◌⊎◌, IfErr, IfOk, List, Ok, length, take, ℕ};
 ghost use Rattle.osm_keys.specs.Publications.{IsPublication, Publication, root_of};
 ghost use Rattle.ql_eval.specs.Work.{IsNodeOf};
+ghost use Rattle.outside_shelf.specs.SecondPreimages.{HaveSecondPreimage};
 ghost use Rattle.node_pack.specs.Headers.{header_at};
 ghost use Rattle.node_pack.specs.Packs.{IsPack, Kept, pack};
 ghost use Rattle.node_pack.specs.Sources.{IsOpenFault};
@@ -56,10 +56,10 @@ impl<F: ReadAt + Drop> PackMirror<F> {
     /// The first thing that is at fault with the header, as [`node_pack::PackSource::open`] tells it; `Device` where the file
     /// isn't read, and `Memory` where an allocation is refused.
     pub fn open(alloc: Global, file: F) -> Result<PackMirror<F>, PackFault>
-        // Of a pack of a publication, it stands for that publication, unless a node of it and other bytes have one digest.
+        // Of a pack of a publication, it stands for that publication, unless a node of it has a second preimage.
         ensures stands { (p : Publication) (nodes : List Kept) → F.reads file (pack (root_of p) nodes)
             → IsPack (pack (root_of p) nodes) (root_of p) nodes
-            → IsPublication p → ¬ Clash (IsNodeOf p) (λ _. ⊤)
+            → IsPublication p → ¬ HaveSecondPreimage (IsNodeOf p)
             → IfOk result (λ mirror. StandsFor mirror p) }
         // The root is that of the file's header, and the file has as many bytes as the header states,
         ensures header { (bytes : List ℕ) → F.reads file bytes → IfOk result (λ mirror. (header : Header)
@@ -77,10 +77,10 @@ impl<F: ReadAt + Drop> PackMirror<F> {
     ///
     /// As of [`PackMirror::open`].
     pub fn open_with_limit(alloc: Global, file: F, limit: u64) -> Result<PackMirror<F>, PackFault>
-        // Of a pack of a publication, it stands for that publication, unless a node of it and other bytes have one digest.
+        // Of a pack of a publication, it stands for that publication, unless a node of it has a second preimage.
         ensures stands { (p : Publication) (nodes : List Kept) → F.reads file (pack (root_of p) nodes)
             → IsPack (pack (root_of p) nodes) (root_of p) nodes
-            → IsPublication p → ¬ Clash (IsNodeOf p) (λ _. ⊤)
+            → IsPublication p → ¬ HaveSecondPreimage (IsNodeOf p)
             → IfOk result (λ mirror. StandsFor mirror p) }
         // The root is that of the file's header, and the file has as many bytes as the header states,
         ensures header { (bytes : List ℕ) → F.reads file bytes → IfOk result (λ mirror. (header : Header)
@@ -105,10 +105,10 @@ impl<F: ReadAt + Drop> PackMirror<F> {
         root: Digest,
         manifest: Place,
     ) -> Result<PackMirror<F>, PackFault>
-        // Under the root of a publication it stands for that publication, whatever the files hold, unless a node of it and other
-        // bytes have one digest.
+        // Under the root of a publication it stands for that publication, whatever the files hold, unless a node of it has a
+        // second preimage.
         ensures stands { (p : Publication) → root.0 ≡ root_of p → IsPublication p
-            → ¬ Clash (IsNodeOf p) (λ _. ⊤) → IfOk result (λ mirror. StandsFor mirror p) }
+            → ¬ HaveSecondPreimage (IsNodeOf p) → IfOk result (λ mirror. StandsFor mirror p) }
         ensures root { IfOk result (λ mirror. mirror ≡ root) }
         ensures refused { IfErr result (λ fault. (fault ≡ PackFault.Device)
             ⊎ (fault ≡ PackFault.Memory)) }

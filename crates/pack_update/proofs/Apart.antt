@@ -3,8 +3,7 @@ use Rattle.std.proofs.Common.{◌≡◌, ◌≢◌, ◌⊎◌, inl, inr, ℕ, Li
 use Rattle.std.specs.HashMap.{get}
 use Rattle.std.specs.List.{Contains}
 use Rattle.std.specs.Option.{option_map}
-use Rattle.std.specs.Prelude.{⊤}
-use Rattle.std.proofs.lemmas.List.Elements.{Contains-append_left, Contains-append_right}
+use Rattle.std.proofs.lemmas.List.Elements.{Contains-append_cases, Contains-append_left, Contains-append_right}
 use Rattle.std.proofs.lemmas.Map.Views.{Contains-from_lookup}
 use Rattle.tree_node.specs.Digests.{digest}
 use Rattle.tree_node.specs.Keys.{digest_eq, key_of}
@@ -15,11 +14,13 @@ use Rattle.tree_node.specs.declared.digest.Digest.{Digest}
 use Rattle.tree_node.specs.declared.part.Part.{Part}
 use Rattle.tree_node.proofs.shared.MapLemmas.{eq_is}
 use Rattle.tree_node.proofs.shared.TreeSame.{same_or_not}
-use Rattle.osm_keys.specs.Publications.{IsNodeIn, Publication}
+use Rattle.osm_keys.specs.Publications.{IsNodeIn, IsPublication, Publication}
 use Rattle.osm_keys.proofs.shared.Members.{first_or_in_rest, here, in_map, in_rest, none}
 use Rattle.outside_shelf.specs.Shelves.{HasBrought}
 use Rattle.outside_shelf.specs.declared.outside.OutsideShelf.{OutsideShelf}
-use Rattle.pack_update.specs.internal.Updating.{IsAlone}
+use Rattle.pack_update.specs.Adding.{HasSecondPreimage, IsByteString}
+use Rattle.pack_update.specs.internal.Updating.{AreAllBytes, IsAlone}
+use Rattle.pack_update.proofs.ByteLists.{bytes_stay, only_bytes, stay_bytes}
 use Rattle.pack_update.proofs.NodeLists.{all_nodes, from_list, to_list}
 
 -- ---- lists of bytes
@@ -61,12 +62,16 @@ apart (first ∷ xs) ys =
 
 -- ---- nodes of a publication
 
-pub alone_or : (p : Publication) (seen : List (List ℕ)) → Clash (IsNodeIn p) (λ _. ⊤) ⊎ IsAlone p seen
-alone_or p seen =
+pub alone_or : (p : Publication) (seen : List (List ℕ)) → ((other : List ℕ) → Contains seen other → IsByteString other) → HasSecondPreimage p ⊎ IsAlone p seen
+alone_or p seen bytes =
     elim (apart (all_nodes p) seen) [
-      | inl clash ↦ inl (clash.0, clash.1, from_list p clash.0 clash.2, tt, clash.4, clash.5)
+      | inl clash ↦ inl (clash.0, clash.1, from_list p clash.0 clash.2, bytes clash.1 clash.3, clash.4, clash.5)
       | inr only ↦ inr (λ bytes other is there same. only bytes (to_list p bytes is) other there same)
     ]
+
+-- the nodes of a publication are byte strings
+pub of_nodes : (p : Publication) → IsPublication p → (other : List ℕ) → Contains (all_nodes p) other → IsByteString other
+of_nodes p is other has = inr (p, is, from_list p other has)
 
 alone_left : (p : Publication) (xs ys : List (List ℕ)) → IsAlone p (xs ++ ys) → IsAlone p xs
 alone_left p xs ys alone bytes other is there same = alone bytes other is (Contains-append_left xs ys other there) same
@@ -79,14 +84,20 @@ clash_free : (p : Publication) → IsAlone p (all_nodes p) → IsClashFree (IsNo
 clash_free p alone a b is are same = alone b a are (to_list p a is) same
 
 -- What follows from two readings, the second of which also asks that no two nodes clash, or nodes clash.
-pub both_or : (p : Publication) (seen others : List (List ℕ)) (First Second : Type 0) → (IsAlone p seen → First) → (IsAlone p others → IsClashFree (IsNodeIn p) → First → Second)
-    → Clash (IsNodeIn p) (λ _. ⊤) ⊎ Second
-both_or p seen others First Second first second =
-    elim (alone_or p (seen ++ (others ++ all_nodes p))) [
+pub both_or : (p : Publication) (seen others : List (List ℕ)) (First Second : Type 0) → IsPublication p → AreAllBytes seen → AreAllBytes others
+    → (IsAlone p seen → First) → (IsAlone p others → IsClashFree (IsNodeIn p) → First → Second) → HasSecondPreimage p ⊎ Second
+both_or p seen others First Second is bytes more_bytes first second =
+    elim (alone_or p (seen ++ (others ++ all_nodes p)) each) [
       | inl clash ↦ inl clash
       | inr alone ↦
           let rest = alone_right p seen (others ++ all_nodes p) alone in
           inr (second (alone_left p others (all_nodes p) rest) (clash_free p (alone_right p others (all_nodes p) rest)) (first (alone_left p seen (others ++ all_nodes p) alone)))
+    ]
+  where
+    each : (other : List ℕ) → Contains (seen ++ (others ++ all_nodes p)) other → IsByteString other
+    each other has = elim (Contains-append_cases seen (others ++ all_nodes p) other has) [
+      | inl left ↦ inl (bytes other left)
+      | inr right ↦ elim (Contains-append_cases others (all_nodes p) other right) [ inl left ↦ inl (more_bytes other left) | inr node ↦ of_nodes p is other node ]
     ]
 
 -- ---- what a shelf has brought
@@ -96,11 +107,18 @@ some_node None x is = absurd (Prim.cc)
 some_node (Some part) x is = (part, refl, Prim.cc)
 
 module _ {N : Type 0} where
+  abbrev pub all_in : OutsideShelf N → List (List ℕ)
+  all_in shelf = map (λ (entry : Digest × Part). node_of entry.1) shelf.brought.entries
+
   -- all bytes that a shelf has brought
   abbrev pub brought_in : OutsideShelf N → List (List ℕ)
-  brought_in shelf = map (λ (entry : Digest × Part). node_of entry.1) shelf.brought.entries
+  brought_in shelf = only_bytes (all_in shelf)
+
+  pub brought_bytes : (shelf : OutsideShelf N) → AreAllBytes (brought_in shelf)
+  brought_bytes shelf = stay_bytes (all_in shelf)
 
   pub brought_listed : (shelf : OutsideShelf N) (x : List ℕ) → HasBrought shelf x → Contains (brought_in shelf) x
   brought_listed shelf x is =
       let (part, at, e) = some_node (get digest_eq shelf.brought (key_of x)) x is in
-      subst (Contains (brought_in shelf)) e (in_map (λ (entry : Digest × Part). node_of entry.1) shelf.brought.entries (key_of x, part) (Contains-from_lookup eq_is (key_of x) part shelf.brought.entries at))
+      let listed : Contains (all_in shelf) (node_of part) = in_map (λ (entry : Digest × Part). node_of entry.1) shelf.brought.entries (key_of x, part) (Contains-from_lookup eq_is (key_of x) part shelf.brought.entries at) in
+      bytes_stay (all_in shelf) x (subst (Contains (all_in shelf)) e listed) (shelf.bytes (key_of x) x is)

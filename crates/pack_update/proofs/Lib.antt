@@ -7,3 +7,4 @@ mod Apart
 mod PlaceLemmas
 mod WholeLemmas
 mod FirstLemmas
+mod ByteLists

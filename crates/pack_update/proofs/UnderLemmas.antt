@@ -1,16 +1,17 @@
 -- Nodes under the root of a publication, and what refusals there say.
-use Rattle.std.proofs.Common.{◌≡◌, inl, inr, ℕ, List, [], ◌∷◌, refl, sym, ◌∙◌}
+use Rattle.std.proofs.Common.{◌≡◌, inl, inr, ℕ, List, [], ◌∷◌, refl, subst, sym, ◌∙◌}
 use Rattle.std.specs.List.{Contains}
 use Rattle.std.specs.Prelude.{Option}
 use Rattle.opl_codec.specs.declared.change.Change.{Change}
 use Rattle.tree_build.specs.StrangeShelves.{HasNoTwin, cause_of}
 use Rattle.tree_build.specs.declared.rebuild_fault.RebuildFault.{RebuildFault}
 use Rattle.tree_build.specs.declared.rebuild_fault.RebuildFault.TheVariants as rebuilds
+use Rattle.tree_node.specs.Nodes.{AreBytes}
 use Rattle.tree_node.specs.Outcomes.{RefusedFor}
 use Rattle.osm_keys.specs.Manifests.{manifest_bytes, top_among}
 use Rattle.osm_keys.specs.Publications.{Publication, manifest_of, top_in}
 use Rattle.osm_keys.specs.declared.manifest.Manifest.{Manifest}
-use Rattle.osm_keys.proofs.shared.Members.{here}
+use Rattle.osm_keys.proofs.shared.Members.{first_or_in_rest, here, none}
 use Rattle.osm_keys.proofs.shared.OneManifest.{same_edition, same_tops, tops_wide}
 use Rattle.osm_index.specs.internal.Updates.{IsUnder, RefusedBy, RefusesUpdate}
 use Rattle.osm_index.specs.declared.update_fault.UpdateFault.{UpdateFault}
@@ -22,7 +23,7 @@ use Rattle.pack_update.specs.Adding.{IsRootOf}
 use Rattle.pack_update.specs.Faults.{IsNoManifest, fault_of_open}
 use Rattle.pack_update.specs.declared.fault.AddFault.{AddFault}
 use Rattle.pack_update.specs.declared.fault.AddFault.TheVariants.{Apply, NoManifest, NoTree, Source, Write}
-use Rattle.pack_update.specs.internal.Updating.{IsAlone, IsEarlyReason, IsOfSource, IsReadUnder, IsUnread, IsUnreadOr, fault_of_plan, fault_of_rebuild}
+use Rattle.pack_update.specs.internal.Updating.{AreAllBytes, IsAlone, IsEarlyReason, IsOfSource, IsReadUnder, IsUnread, IsUnreadOr, fault_of_plan, fault_of_rebuild}
 
 -- ---- nodes
 
@@ -47,6 +48,13 @@ seen_unread root NoManifest un = un.bytes ∷ []
 seen_unread root NoTree un = []
 seen_unread root (Apply fault) un = []
 seen_unread root (Write fault) un = []
+
+pub seen_bytes : (root : List ℕ) (fault : AddFault) (un : IsUnread root fault) → AreAllBytes (seen_unread root fault un)
+seen_bytes root (Source reason) un other has = absurd (none other has)
+seen_bytes root NoManifest un other has = elim (first_or_in_rest un.bytes [] other has) [ inl at ↦ subst AreBytes at un.are | inr more ↦ absurd (none other more) ]
+seen_bytes root NoTree un other has = absurd un
+seen_bytes root (Apply fault) un other has = absurd un
+seen_bytes root (Write fault) un other has = absurd un
 
 -- the bytes with its root are a manifest
 no_unread : (p : Publication) (root : List ℕ) → IsRootOf p root → (unread : IsNoManifest root) → ¬ IsAlone p (unread.bytes ∷ [])

@@ -5,6 +5,7 @@ use Rattle.byte_io.specs.Written.{AppendsFront}
 use Rattle.opl_codec.specs.declared.change.Change.{Change}
 use Rattle.tree_build.specs.Rebuilding.{IsAmong}
 use Rattle.tree_node.specs.Digests.{digest}
+use Rattle.tree_node.specs.Nodes.{AreBytes}
 use Rattle.tree_node.specs.declared.tree.Tree.{Tree}
 use Rattle.osm_keys.specs.Manifests.{HaveWidth, manifest}
 use Rattle.osm_keys.specs.Publications.{IsNodeIn, Publication, root_of}
@@ -50,9 +51,10 @@ IsAddReason p all number NoTree = ⊥
 IsAddReason p all number (Apply fault) = RefusesUpdate p all fault
 IsAddReason p all number (Write fault) = IsUnwritten p all number fault
 
--- the bytes with the root are no manifest
+-- a byte string with the root is no manifest
 pub record IsNoManifest (root : List ℕ) : Type 0 where
   pub bytes : List ℕ
+  pub are : AreBytes bytes
   pub has_root : digest bytes ≡ root
   pub none : (edition : Edition) (tops : Tree → List ℕ) → HaveWidth tops → bytes ≢ manifest edition tops
 

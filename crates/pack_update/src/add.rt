@@ -1,10 +1,9 @@
 //! Adding changes to the files of a publication.
 
-ghost use Rattle.std.specs.Prelude.{◌≡◌, ◌≢◌, ◌⊎◌, ◌<◌, ℕ, Err, IfErr, IfOk, List, length, ⊤};
-ghost use Rattle.tree_node.specs.Outcomes.{Clash};
-ghost use Rattle.osm_keys.specs.Publications.{IsNodeIn, Publication};
+ghost use Rattle.std.specs.Prelude.{◌≡◌, ◌≢◌, ◌⊎◌, ◌<◌, ℕ, Err, IfErr, IfOk, List, length};
+ghost use Rattle.osm_keys.specs.Publications.{Publication};
 ghost use Rattle.pack_files.specs.Joined.{joined};
-ghost use Rattle.pack_update.specs.Adding.{HasFurther, IsAddedOf, IsNextBy, IsRootOf};
+ghost use Rattle.pack_update.specs.Adding.{HasFurther, HasSecondPreimage, IsAddedOf, IsNextBy, IsRootOf};
 ghost use Rattle.pack_update.specs.Faults.{HasBegun, IsAddReason, IsNoManifest};
 ghost use Rattle.pack_update.specs.Files.{AreFilesOf};
 ghost use Rattle.pack_update.specs.declared.fault.AddFault.TheVariants.{NoManifest, Write};
@@ -43,20 +42,20 @@ pub fn add_changes<F: ReadAt + Drop, W: Write>(
 ) -> Result<Added, AddFault>
     requires number { number < 65535 }
     // Under the root of a publication the changes make another one of it, whatever the files hold, and its root is told, unless
-    // one of its nodes and other bytes have one digest.
+    // one of its nodes and another byte string have one digest.
     ensures safe { (p : Publication) → IsRootOf p root.now.0
         → IfOk result (λ added. (q : Publication) × IsNextBy p changes.now q × IsAddedOf q added)
-        ⊎ Clash (IsNodeIn p) (λ _. ⊤) }
+        ⊎ HasSecondPreimage p }
     // If the third reader reads files that have its nodes, they and the new file have those of the other one.
     ensures whole { (p : Publication) (contents : List (List ℕ)) → IsRootOf p root.now.0
         → F.reads files.places (joined contents) → AreFilesOf contents p manifest → length contents ≡ number
         → IfOk result (λ added. (q : Publication) × IsNextBy p changes.now q × IsAddedOf q added
         × HasFurther contents q added (W.contents writer.old) (W.contents writer.new))
-        ⊎ Clash (IsNodeIn p) (λ _. ⊤) }
+        ⊎ HasSecondPreimage p }
     // Under the root of a publication each refusal has its reason, with the same exception,
     ensures refused { (p : Publication) → IsRootOf p root.now.0
-        → IfErr result (IsAddReason p changes.now number) ⊎ Clash (IsNodeIn p) (λ _. ⊤) }
-    // and where no manifest is told, other bytes have the root.
+        → IfErr result (IsAddReason p changes.now number) ⊎ HasSecondPreimage p }
+    // and where no manifest is told, another byte string has the root.
     ensures no_manifest { result ≡ Err NoManifest → IsNoManifest root.now.0 }
     // Where the writer fails, no more than a beginning of a file is written, and nothing where another thing is at fault.
     ensures begun { result ≡ Err (Write WriteFault.NotWritten)

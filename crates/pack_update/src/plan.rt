@@ -3,7 +3,7 @@
 ghost use Rattle.std.specs.Prelude.{◌≡◌, ℕ, IfErr, IfOk, List};
 ghost use Rattle.osm_keys.specs.Publications.{Publication};
 ghost use Rattle.pack_update.specs.Adding.{IsRootOf};
-ghost use Rattle.pack_update.specs.internal.Updating.{IsAlone, IsEarlyReason, IsPlannedFor, IsUnreadOr, fault_of_plan};
+ghost use Rattle.pack_update.specs.internal.Updating.{AreAllBytes, IsAlone, IsEarlyReason, IsPlannedFor, IsUnreadOr, fault_of_plan};
 
 use crate::fault::AddFault;
 use crate::under::{fetch_manifest, not_given};
@@ -32,7 +32,7 @@ pub(crate) fn plan_changes<F: ReadAt + Drop>(
     changes: &[Change],
 ) -> Result<Planned, AddFault>
     // Unless one of these bytes, which it has read, and a different node have one digest:
-    ensures under { (seen : List (List ℕ)) × ((p : Publication) → IsRootOf p root.now.0 → IsAlone p seen
+    ensures under { (seen : List (List ℕ)) × AreAllBytes seen × ((p : Publication) → IsRootOf p root.now.0 → IsAlone p seen
         → IfOk result (IsPlannedFor p root.now.0 changes.now) × IfErr result (IsEarlyReason p changes.now)) }
     ensures unread { IfErr result (IsUnreadOr root.now.0) }
 {

@@ -6,7 +6,7 @@ ghost use Rattle.tree_node.specs.Shelves.{IsClashFree};
 ghost use Rattle.osm_keys.specs.Publications.{IsNodeIn, Publication};
 ghost use Rattle.osm_index.specs.internal.Updates.{IsUpdateBy};
 ghost use Rattle.pack_update.specs.Adding.{IsRootOf};
-ghost use Rattle.pack_update.specs.internal.Updating.{IsAlone, IsEarlyReason, IsPlannedFor, IsUnreadOr, fault_of_rebuild};
+ghost use Rattle.pack_update.specs.internal.Updating.{AreAllBytes, IsAlone, IsEarlyReason, IsPlannedFor, IsUnreadOr, fault_of_rebuild};
 
 use crate::fault::AddFault;
 use crate::plan::Planned;
@@ -28,7 +28,7 @@ pub(crate) fn rebuild_trees<F: ReadAt + Drop>(
     planned: &Planned,
 ) -> Result<Update, AddFault>
     // Unless one of these bytes, which it has read, and a different node have one digest, or two of its own nodes have:
-    ensures under { (seen : List (List ℕ)) × ((p : Publication) (all : List SetChange) → IsRootOf p root.now.0
+    ensures under { (seen : List (List ℕ)) × AreAllBytes seen × ((p : Publication) (all : List SetChange) → IsRootOf p root.now.0
         → IsAlone p seen → IsClashFree (IsNodeIn p) → IsPlannedFor p root.now.0 all planned.now
         → IfOk result (IsUpdateBy p all) × IfErr result (IsEarlyReason p all)) }
     ensures unread { IfErr result (IsUnreadOr root.now.0) }

@@ -3,6 +3,7 @@
 use Rattle.std.specs.Prelude.{◌⊎◌, ℕ, List}
 use Rattle.std.proofs.Common.{inl, inr, sym}
 use Rattle.tree_node.specs.Digests.{digest}
+use Rattle.tree_node.specs.Nodes.{AreBytes}
 use Rattle.tree_node.specs.Shelves.{HasNone, IsClashFree}
 
 -- two sets without clashes have none together, where no node of the second has a digest of the first
@@ -17,3 +18,8 @@ free_together These Those free others apart a b (inr p) (inr q) e = others a b p
 pub held_together : (Used Held Both : List ℕ → Type 0) → ((x : List ℕ) → Used x → Held x) → (x : List ℕ) → Used x ⊎ Both x → Held x ⊎ Both x
 held_together Used Held Both held x (inl p) = inl (held x p)
 held_together Used Held Both held x (inr q) = inr q
+
+-- what is of bytes in each of two sets is so in both
+pub bytes_together : {These Those : List ℕ → Type 0} → ((x : List ℕ) → These x → AreBytes x) → ((x : List ℕ) → Those x → AreBytes x) → (x : List ℕ) → These x ⊎ Those x → AreBytes x
+bytes_together first second x (inl p) = first x p
+bytes_together first second x (inr q) = second x q

@@ -4,7 +4,6 @@ use Rattle.std.specs.Prelude.{◌≡◌, ◌≢◌, ◌⊎◌, ◌≤◌, ◌++�
 use Rattle.tree_node.specs.Digests.{digest}
 use Rattle.tree_node.specs.NodeRefs.{number_of}
 use Rattle.tree_node.specs.Nodes.{Binding, Node, spelling}
-use Rattle.tree_node.specs.Outcomes.{Clash as HasClash}
 use Rattle.tree_node.specs.declared.limits.TheConstants.{LEVEL_LIMIT}
 use Rattle.tree_node.specs.declared.tree.Tree.{Tree}
 use Rattle.osm_keys.specs.Publications.{IsNodeIn, Publication, shape_in, top_in}
@@ -19,10 +18,6 @@ use Rattle.pack_compact.specs.Compacting.{IsOfDevice}
 use Rattle.pack_compact.specs.declared.fault.CompactFault.{CompactFault}
 use Rattle.pack_compact.specs.declared.fault.CompactFault.TheVariants.{Clash, Device, Memory, NoManifest, NoTree, NotWritten, Source, TooLong}
 use Rattle.pack_compact.specs.internal.Trees.{IsOver}
-
--- other bytes than a node of the publication have its digest
-abbrev pub HasTwin : Publication → Type 0
-HasTwin p = HasClash (IsNodeIn p) (λ _. ⊤)
 
 -- ---- files
 

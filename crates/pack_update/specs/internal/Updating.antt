@@ -4,6 +4,7 @@ use Rattle.std.specs.List.{Contains}
 use Rattle.std.specs.Prelude.{◌≡◌, ℕ, List, Option, ⊤, unwrap_or}
 use Rattle.opl_codec.specs.declared.change.Change.{Change}
 use Rattle.tree_node.specs.Digests.{digest}
+use Rattle.tree_node.specs.Nodes.{AreBytes}
 use Rattle.osm_keys.specs.Manifests.{HasSequence, HaveWidth, manifest_bytes, top_among}
 use Rattle.osm_keys.specs.Publications.{IsNodeIn, Publication}
 use Rattle.osm_keys.specs.declared.manifest.Manifest.{Manifest}
@@ -19,6 +20,10 @@ use Rattle.pack_update.specs.Faults.{IsNoManifest}
 use Rattle.pack_update.specs.declared.plan.Planned.{Planned}
 use Rattle.pack_update.specs.declared.fault.AddFault.{AddFault}
 use Rattle.pack_update.specs.declared.fault.AddFault.TheVariants.{Apply, NoManifest, NoTree, Source, Write}
+
+-- each of them consists of bytes
+abbrev pub AreAllBytes : List (List ℕ) → Type 0
+AreAllBytes seen = (other : List ℕ) → Contains seen other → AreBytes other
 
 -- none of these bytes has the digest of a node of the publication but that node
 abbrev pub IsAlone : Publication → List (List ℕ) → Type 0

@@ -13,12 +13,12 @@ use Rattle.osm_packs.proofs.answer_text.answer_text.Goals as goal
 
 pub returns-in-Ok-clause-right : goal.returns-in-Ok-clause-right
 returns-in-Ok-clause-right g c = λ p text reads is root.
-    right_text p c.args.form text (statements_of c.args.query.now) _ _ reads c.new-text.ensures.items (c.in-Ok.ensures.right p is root)
+    right_text p c.args.form text (statements_of c.args.query.now) _ _ _ reads c.new-text.ensures.items (c.in-Ok.ensures.right p is root)
 
 pub returns-clause-budget : goal.returns-clause-budget
 returns-clause-budget g c = λ p text reads is root none.
-    subst (λ (fault : NotAnswered). KeepsBudget {A = Vec ℕ Global} (IsWorkOf (form_text c.args.form) p text) c.args.limits.work (Err fault)) (sym c.fault_of_answer.ensures)
-    (budget_kept (Vec ℕ Global) p c.args.form text (statements_of c.args.query.now) c.args.limits.work c.in-Err.fault reads (c.in-Err.ensures.budget p is root none))
+    subst (λ (fault : NotAnswered). KeepsBudget {A = Vec ℕ Global} (IsWorkOf (form_text c.args.form) p text) c.args.most (Err fault)) (sym c.fault_of_answer.ensures)
+    (budget_kept (Vec ℕ Global) p c.args.form text (statements_of c.args.query.now) c.args.most c.in-Err.fault reads (c.in-Err.ensures.budget p is root none))
 
 pub returns-clause-told : goal.returns-clause-told
 returns-clause-told g c = subst IsOfNodes (sym c.fault_of_answer.ensures) (of_nodes c.in-Err.fault)

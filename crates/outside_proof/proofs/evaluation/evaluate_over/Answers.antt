@@ -7,7 +7,7 @@ use Rattle.ql_eval.specs.Work.{KeepsBudget, WorkOfQuery}
 use Rattle.ql_eval.specs.declared.fault.EvalFault.{EvalFault}
 use Rattle.ql_eval.specs.declared.fault.EvalFault.TheVariants as faults
 use Rattle.outside_proof.proofs.BudgetLemmas.{within}
-use Rattle.outside_proof.proofs.Evaluating.{ends_by, no_clash}
+use Rattle.outside_proof.proofs.Evaluating.{ends_by}
 use Rattle.outside_proof.proofs.evaluation.evaluate_over.Goals as goal
 
 pub returns-in-Ok-clause-means : goal.returns-in-Ok-clause-means
@@ -22,7 +22,7 @@ returns-in-Ok-clause-needed g c = λ p is root none.
 
 pub returns-in-Ok-clause-within : goal.returns-in-Ok-clause-within
 returns-in-Ok-clause-within g c = λ p is root none.
-    within (WorkOfQuery (form_text Opl) p (statements_of c.args.query.now)) c.args.most _ (c.in-Ok.ensures.budget p is root (no_clash p _ none))
+    within (WorkOfQuery (form_text Opl) p (statements_of c.args.query.now)) c.args.most _ (c.in-Ok.ensures.budget p is root none)
 
 pub returns-in-Err-clause-only : goal.returns-in-Err-clause-only
 returns-in-Err-clause-only g c = λ p is root none.
@@ -32,4 +32,4 @@ pub returns-in-Err-clause-too_much : goal.returns-in-Err-clause-too_much
 returns-in-Err-clause-too_much g c = λ p is root none same.
     let work : c.in-Err.fault ≡ faults.Work = let e = same in cc in
     subst (λ (fault : EvalFault). KeepsBudget (WorkOfQuery (form_text Opl) p (statements_of c.args.query.now)) c.args.most (Err fault)) work
-    (c.in-Err.ensures.budget p is root (no_clash p _ none))
+    (c.in-Err.ensures.budget p is root none)

@@ -4,6 +4,7 @@ use Rattle.osm_keys.specs.Publications.{top_in}
 use Rattle.osm_keys.proofs.shared.OneManifest.{tops_wide}
 use Rattle.osm_keys.specs.declared.manifest.Manifest.{Manifest}
 use Rattle.tree_node.specs.Digests.{digest}
+use Rattle.tree_node.specs.Nodes.{AreBytes}
 use Rattle.tree_node.proofs.shared.MapLemmas.{differ}
 use Rattle.pack_compact.proofs.OutcomeLemmas.{err_if, err_isnt}
 use Rattle.pack_compact.proofs.ReadLemmas.{held_still, no_failure, nothing}
@@ -33,7 +34,7 @@ returns-in_err-record-clause-no_manifest g c = λ told.
 
 pub returns-in_default-clause-whole : goal.returns-in_default-clause-whole
 returns-in_default-clause-whole g c = λ holds p contents is reads are.
-    elim (manifest_or_twin p c.args.root.now.0 c.node.result.now is (ap digest c.node.ensures.value ∙ c.in_ok-record.ensures.has_digest)) [
+    elim (manifest_or_twin p c.args.root.now.0 c.node.result.now is (ap digest c.node.ensures.value ∙ c.in_ok-record.ensures.has_digest) (subst AreBytes (sym c.node.ensures.value) c.in_ok-record.ensures.bytes)) [
       | inl same ↦
           let none : IsNone c.read_manifest.result = subst (λ (o : Option Manifest). IsNone o) (sym (nothing c.read_manifest.result c.in_default.not-Some)) refl in
           inl (c.read_manifest.ensures.none none p.edition (top_in p) (tops_wide p) same)
@@ -42,19 +43,29 @@ returns-in_default-clause-whole g c = λ holds p contents is reads are.
 
 pub returns-in_default-clause-refused : goal.returns-in_default-clause-refused
 returns-in_default-clause-refused g c = λ holds p is.
-    elim (manifest_or_twin p c.args.root.now.0 c.node.result.now is (ap digest c.node.ensures.value ∙ c.in_ok-record.ensures.has_digest)) [
+    elim (manifest_or_twin p c.args.root.now.0 c.node.result.now is (ap digest c.node.ensures.value ∙ c.in_ok-record.ensures.has_digest) (subst AreBytes (sym c.node.ensures.value) c.in_ok-record.ensures.bytes)) [
       | inl same ↦
           let none : IsNone c.read_manifest.result = subst (λ (o : Option Manifest). IsNone o) (sym (nothing c.read_manifest.result c.in_default.not-Some)) refl in
           inl (c.read_manifest.ensures.none none p.edition (top_in p) (tops_wide p) same)
       | inr twin ↦ inr twin
     ]
 
+pub returns-in_default-clause-no_manifest : goal.returns-in_default-clause-no_manifest
+returns-in_default-clause-no_manifest g c = λ told. record {
+  bytes = c.node.result.now;
+  are = subst AreBytes (sym c.node.ensures.value) c.in_ok-record.ensures.bytes;
+  has_root = ap digest c.node.ensures.value ∙ c.in_ok-record.ensures.has_digest;
+  none =
+      let none : IsNone c.read_manifest.result = subst (λ (o : Option Manifest). IsNone o) (sym (nothing c.read_manifest.result c.in_default.not-Some)) refl in
+      c.read_manifest.ensures.none none;
+}
+
 pub returns-in_err-trees-clause-whole : goal.returns-in_err-trees-clause-whole
 returns-in_err-trees-clause-whole g c = λ holds p contents is reads are.
     let known : Option Holding = Some (held_by contents p c.args.manifest are) in
     let held : AreHeld (g.F.ReadAt.reads c.args.files.now) known = (reads, are.are) in
     let at : IsPlaceOf known c.args.root.now.0 c.args.manifest = ap are.places is.is ∙ are.rooted in
-    elim (manifest_or_twin p c.args.root.now.0 c.node.result.now is (ap digest c.node.ensures.value ∙ c.in_ok-record.ensures.has_digest)) [
+    elim (manifest_or_twin p c.args.root.now.0 c.node.result.now is (ap digest c.node.ensures.value ∙ c.in_ok-record.ensures.has_digest) (subst AreBytes (sym c.node.ensures.value) c.in_ok-record.ensures.bytes)) [
       | inl same ↦
           let u = under p c.args.root.now.0 c.node.result.now c.in-Some.manifest is c.sequence_fits.ensures c.in-Some.ensures.width c.in-Some.ensures.some same in
           let tops = has_tops p known c.args.root.now.0 c.in_ok-record.record c.node.result.now c.node.ensures.given same (c.in_ok-record.ensures.ends known held at) in
@@ -71,7 +82,7 @@ returns-in_err-trees-clause-refused g c = λ holds p is.
     let known : Option Holding = None in
     let held : AreHeld (g.F.ReadAt.reads c.args.files.now) known = tt in
     let at : IsPlaceOf known c.args.root.now.0 c.args.manifest = tt in
-    elim (manifest_or_twin p c.args.root.now.0 c.node.result.now is (ap digest c.node.ensures.value ∙ c.in_ok-record.ensures.has_digest)) [
+    elim (manifest_or_twin p c.args.root.now.0 c.node.result.now is (ap digest c.node.ensures.value ∙ c.in_ok-record.ensures.has_digest) (subst AreBytes (sym c.node.ensures.value) c.in_ok-record.ensures.bytes)) [
       | inl same ↦
           let u = under p c.args.root.now.0 c.node.result.now c.in-Some.manifest is c.sequence_fits.ensures c.in-Some.ensures.width c.in-Some.ensures.some same in
           let tops = has_tops p known c.args.root.now.0 c.in_ok-record.record c.node.result.now c.node.ensures.given same (c.in_ok-record.ensures.ends known held at) in
@@ -92,7 +103,7 @@ returns-then-not-are_same-clause-whole g c = λ holds p contents is reads are.
     let known : Option Holding = Some (held_by contents p c.args.manifest are) in
     let held : AreHeld (g.F.ReadAt.reads c.args.files.now) known = (reads, are.are) in
     let at : IsPlaceOf known c.args.root.now.0 c.args.manifest = ap are.places is.is ∙ are.rooted in
-    elim (manifest_or_twin p c.args.root.now.0 c.node.result.now is (ap digest c.node.ensures.value ∙ c.in_ok-record.ensures.has_digest)) [
+    elim (manifest_or_twin p c.args.root.now.0 c.node.result.now is (ap digest c.node.ensures.value ∙ c.in_ok-record.ensures.has_digest) (subst AreBytes (sym c.node.ensures.value) c.in_ok-record.ensures.bytes)) [
       | inl same ↦
           let u = under p c.args.root.now.0 c.node.result.now c.in-Some.manifest is c.sequence_fits.ensures c.in-Some.ensures.width c.in-Some.ensures.some same in
           let tops = has_tops p known c.args.root.now.0 c.in_ok-record.record c.node.result.now c.node.ensures.given same (c.in_ok-record.ensures.ends known held at) in
@@ -111,7 +122,7 @@ returns-then-not-are_same-clause-refused g c = λ holds p is.
     let known : Option Holding = None in
     let held : AreHeld (g.F.ReadAt.reads c.args.files.now) known = tt in
     let at : IsPlaceOf known c.args.root.now.0 c.args.manifest = tt in
-    elim (manifest_or_twin p c.args.root.now.0 c.node.result.now is (ap digest c.node.ensures.value ∙ c.in_ok-record.ensures.has_digest)) [
+    elim (manifest_or_twin p c.args.root.now.0 c.node.result.now is (ap digest c.node.ensures.value ∙ c.in_ok-record.ensures.has_digest) (subst AreBytes (sym c.node.ensures.value) c.in_ok-record.ensures.bytes)) [
       | inl same ↦
           let u = under p c.args.root.now.0 c.node.result.now c.in-Some.manifest is c.sequence_fits.ensures c.in-Some.ensures.width c.in-Some.ensures.some same in
           let tops = has_tops p known c.args.root.now.0 c.in_ok-record.record c.node.result.now c.node.ensures.given same (c.in_ok-record.ensures.ends known held at) in
@@ -130,7 +141,7 @@ returns-in_err-write_trees-clause-whole g c = λ holds p contents is reads are.
     let known : Option Holding = Some (held_by contents p c.args.manifest are) in
     let held : AreHeld (g.F.ReadAt.reads c.args.files.now) known = (reads, are.are) in
     let at : IsPlaceOf known c.args.root.now.0 c.args.manifest = ap are.places is.is ∙ are.rooted in
-    elim (manifest_or_twin p c.args.root.now.0 c.node.result.now is (ap digest c.node.ensures.value ∙ c.in_ok-record.ensures.has_digest)) [
+    elim (manifest_or_twin p c.args.root.now.0 c.node.result.now is (ap digest c.node.ensures.value ∙ c.in_ok-record.ensures.has_digest) (subst AreBytes (sym c.node.ensures.value) c.in_ok-record.ensures.bytes)) [
       | inl same ↦
           let u = under p c.args.root.now.0 c.node.result.now c.in-Some.manifest is c.sequence_fits.ensures c.in-Some.ensures.width c.in-Some.ensures.some same in
           let tops = has_tops p known c.args.root.now.0 c.in_ok-record.record c.node.result.now c.node.ensures.given same (c.in_ok-record.ensures.ends known held at) in
@@ -149,7 +160,7 @@ returns-in_err-write_trees-clause-refused g c = λ holds p is.
     let known : Option Holding = None in
     let held : AreHeld (g.F.ReadAt.reads c.args.files.now) known = tt in
     let at : IsPlaceOf known c.args.root.now.0 c.args.manifest = tt in
-    elim (manifest_or_twin p c.args.root.now.0 c.node.result.now is (ap digest c.node.ensures.value ∙ c.in_ok-record.ensures.has_digest)) [
+    elim (manifest_or_twin p c.args.root.now.0 c.node.result.now is (ap digest c.node.ensures.value ∙ c.in_ok-record.ensures.has_digest) (subst AreBytes (sym c.node.ensures.value) c.in_ok-record.ensures.bytes)) [
       | inl same ↦
           let u = under p c.args.root.now.0 c.node.result.now c.in-Some.manifest is c.sequence_fits.ensures c.in-Some.ensures.width c.in-Some.ensures.some same in
           let tops = has_tops p known c.args.root.now.0 c.in_ok-record.record c.node.result.now c.node.ensures.given same (c.in_ok-record.ensures.ends known held at) in
@@ -168,7 +179,7 @@ returns-clause-safe g c = λ holds p is.
     let known : Option Holding = None in
     let held : AreHeld (g.F.ReadAt.reads c.args.files.now) known = tt in
     let at : IsPlaceOf known c.args.root.now.0 c.args.manifest = tt in
-    elim (manifest_or_twin p c.args.root.now.0 c.node.result.now is (ap digest c.node.ensures.value ∙ c.in_ok-record.ensures.has_digest)) [
+    elim (manifest_or_twin p c.args.root.now.0 c.node.result.now is (ap digest c.node.ensures.value ∙ c.in_ok-record.ensures.has_digest) (subst AreBytes (sym c.node.ensures.value) c.in_ok-record.ensures.bytes)) [
       | inl same ↦
           let u = under p c.args.root.now.0 c.node.result.now c.in-Some.manifest is c.sequence_fits.ensures c.in-Some.ensures.width c.in-Some.ensures.some same in
           let tops = has_tops p known c.args.root.now.0 c.in_ok-record.record c.node.result.now c.node.ensures.given same (c.in_ok-record.ensures.ends known held at) in

@@ -3,7 +3,7 @@ use Rattle.std.proofs.lemmas.Bool.{eq-eqb}
 use Rattle.osm_keys.specs.Publications.{IsNodeIn}
 use Rattle.tree_node.specs.Digests.{digest}
 use Rattle.tree_node.specs.NodeRefs.{link_of, node_read, number_of}
-use Rattle.tree_node.specs.Nodes.{Binding, Inner, IsNode, Leaf, Link, spelling}
+use Rattle.tree_node.specs.Nodes.{AreBytes, Binding, Inner, IsNode, Leaf, Link, spelling}
 use Rattle.tree_node.specs.Trees.{links_in}
 use Rattle.tree_node.specs.declared.node.NodeRef.{NodeRef}
 use Rattle.outside_shelf.specs.declared.refused.Refused.TheVariants.{Absent}
@@ -19,7 +19,7 @@ returns-in_err-record-clause-told g t c =
 
 pub returns-in-Ok-Leaf-clause-copied : goal.returns-in-Ok-Leaf-clause-copied
 returns-in-Ok-Leaf-clause-copied g t c = λ p known others level node entries left has can held taken.
-    elim (same_or_twin p c.node.result.now (spelling node) c.args.key.now.0 (over_owned (IsNodeIn p) level node entries can.over) (ap digest c.node.ensures.value ∙ c.in_ok-record.ensures.has_digest) can.key_is) [
+    elim (same_or_twin p c.node.result.now (spelling node) c.args.key.now.0 (over_owned (IsNodeIn p) level node entries can.over) (ap digest c.node.ensures.value ∙ c.in_ok-record.ensures.has_digest) (subst AreBytes (sym c.node.ensures.value) c.in_ok-record.ensures.bytes) can.key_is) [
       | inl same ↦
           let is : Leaf (number_of c.in-Ok-Leaf.field-0-0) c.in-Ok-Leaf.entries ≡ node =
           ap node_read (sym c.in-Ok-Leaf.field-0-is) ∙ c.in-Ok-Leaf.ensures.only node (over_node (IsNodeIn p) level node entries can.over, same) in
@@ -34,7 +34,7 @@ returns-in-Ok-Leaf-clause-copied g t c = λ p known others level node entries le
 
 pub returns-then-depth-eq0-clause-copied : goal.returns-then-depth-eq0-clause-copied
 returns-then-depth-eq0-clause-copied g t c = λ p known others level node entries left has can held taken.
-    elim (same_or_twin p c.node.result.now (spelling node) c.args.key.now.0 (over_owned (IsNodeIn p) level node entries can.over) (ap digest c.node.ensures.value ∙ c.in_ok-record.ensures.has_digest) can.key_is) [
+    elim (same_or_twin p c.node.result.now (spelling node) c.args.key.now.0 (over_owned (IsNodeIn p) level node entries can.over) (ap digest c.node.ensures.value ∙ c.in_ok-record.ensures.has_digest) (subst AreBytes (sym c.node.ensures.value) c.in_ok-record.ensures.bytes) can.key_is) [
       | inl same ↦
           let is : Inner (number_of c.in-Ok-Inner.field-0-0) c.in-Ok-Inner.field-0-1 c.in-Ok-Inner.children ≡ node =
           ap node_read (sym c.in-Ok-Inner.field-0-is) ∙ c.in-Ok-Inner.ensures.only node (over_node (IsNodeIn p) level node entries can.over, same) in
@@ -46,7 +46,7 @@ returns-then-depth-eq0-clause-copied g t c = λ p known others level node entrie
 pub loop-child-init : goal.loop-child-init
 loop-child-init g t c = record {
   copied = λ p known others level node entries left has can held taken.
-      elim (same_or_twin p c.node.result.now (spelling node) c.args.key.now.0 (over_owned (IsNodeIn p) level node entries can.over) (ap digest c.node.ensures.value ∙ c.in_ok-record.ensures.has_digest) can.key_is) [
+      elim (same_or_twin p c.node.result.now (spelling node) c.args.key.now.0 (over_owned (IsNodeIn p) level node entries can.over) (ap digest c.node.ensures.value ∙ c.in_ok-record.ensures.has_digest) (subst AreBytes (sym c.node.ensures.value) c.in_ok-record.ensures.bytes) can.key_is) [
         | inl same ↦
             let node_is = over_node (IsNodeIn p) level node entries can.over in
             let links = c.in-Ok-Inner.children in
@@ -67,7 +67,7 @@ loop-child-init g t c = record {
 
 pub returns-in_default-clause-copied : goal.returns-in_default-clause-copied
 returns-in_default-clause-copied g t c = λ p known others level node entries left has can held taken.
-    elim (same_or_twin p c.node.result.now (spelling node) c.args.key.now.0 (over_owned (IsNodeIn p) level node entries can.over) (ap digest c.node.ensures.value ∙ c.in_ok-record.ensures.has_digest) can.key_is) [
+    elim (same_or_twin p c.node.result.now (spelling node) c.args.key.now.0 (over_owned (IsNodeIn p) level node entries can.over) (ap digest c.node.ensures.value ∙ c.in_ok-record.ensures.has_digest) (subst AreBytes (sym c.node.ensures.value) c.in_ok-record.ensures.bytes) can.key_is) [
       | inl same ↦
           let placed = (all_placed known c.args.key.now.0 c.in_ok-record.record c.node.result.now node (links_in node) c.node.ensures.given (over_node (IsNodeIn p) level node entries can.over) same refl (c.in_ok-record.ensures.ends known held can.at)) in
           elim (c.loop-child.invariant.copied p known others level node entries left has can held taken) [
@@ -87,7 +87,7 @@ returns-in_default-clause-stays g t c = c.loop-child.invariant.stays
 
 pub returns-in_err-copy_below-in-Ok-Inner-clause-copied : goal.returns-in_err-copy_below-in-Ok-Inner-clause-copied
 returns-in_err-copy_below-in-Ok-Inner-clause-copied g t c = λ p known others level node entries left has can held taken.
-    elim (same_or_twin p c.node.result.now (spelling node) c.args.key.now.0 (over_owned (IsNodeIn p) level node entries can.over) (ap digest c.node.ensures.value ∙ c.in_ok-record.ensures.has_digest) can.key_is) [
+    elim (same_or_twin p c.node.result.now (spelling node) c.args.key.now.0 (over_owned (IsNodeIn p) level node entries can.over) (ap digest c.node.ensures.value ∙ c.in_ok-record.ensures.has_digest) (subst AreBytes (sym c.node.ensures.value) c.in_ok-record.ensures.bytes) can.key_is) [
       | inl same ↦
           let placed = (all_placed known c.args.key.now.0 c.in_ok-record.record c.node.result.now node (links_in node) c.node.ensures.given (over_node (IsNodeIn p) level node entries can.over) same refl (c.in_ok-record.ensures.ends known held can.at)) in
           elim (c.loop-child.invariant.copied p known others level node entries left has can held taken) [
@@ -112,7 +112,7 @@ overflow_add-number g t c = omega (arith, c.loop-child.invariant.few, ap (length
 pub loop-child-preserved : goal.loop-child-preserved
 loop-child-preserved g t c = record {
   copied = λ p known others level node entries left has can held taken.
-      elim (same_or_twin p c.node.result.now (spelling node) c.args.key.now.0 (over_owned (IsNodeIn p) level node entries can.over) (ap digest c.node.ensures.value ∙ c.in_ok-record.ensures.has_digest) can.key_is) [
+      elim (same_or_twin p c.node.result.now (spelling node) c.args.key.now.0 (over_owned (IsNodeIn p) level node entries can.over) (ap digest c.node.ensures.value ∙ c.in_ok-record.ensures.has_digest) (subst AreBytes (sym c.node.ensures.value) c.in_ok-record.ensures.bytes) can.key_is) [
         | inl same ↦
             let placed = (all_placed known c.args.key.now.0 c.in_ok-record.record c.node.result.now node (links_in node) c.node.ensures.given (over_node (IsNodeIn p) level node entries can.over) same refl (c.in_ok-record.ensures.ends known held can.at)) in
             elim (c.loop-child.invariant.copied p known others level node entries left has can held taken) [
@@ -143,7 +143,7 @@ returns-in-Ok-Inner-clause-stays g t c = c.loop-child.invariant.stays
 
 pub returns-clause-copied : goal.returns-clause-copied
 returns-clause-copied g t c = λ p known others level node entries left has can held taken.
-    elim (same_or_twin p c.node.result.now (spelling node) c.args.key.now.0 (over_owned (IsNodeIn p) level node entries can.over) (ap digest c.node.ensures.value ∙ c.in_ok-record.ensures.has_digest) can.key_is) [
+    elim (same_or_twin p c.node.result.now (spelling node) c.args.key.now.0 (over_owned (IsNodeIn p) level node entries can.over) (ap digest c.node.ensures.value ∙ c.in_ok-record.ensures.has_digest) (subst AreBytes (sym c.node.ensures.value) c.in_ok-record.ensures.bytes) can.key_is) [
       | inl same ↦ inl (c.in-Err.ensures.only node (over_node (IsNodeIn p) level node entries can.over, same))
       | inr twin ↦ inr twin
     ]

@@ -12,7 +12,7 @@ use Rattle.pack_update.specs.Faults.{IsAddReason}
 use Rattle.pack_update.specs.declared.fault.AddFault.TheVariants.{Write}
 use Rattle.pack_update.specs.internal.Updating.{IsEarlyReason, IsPlannedFor}
 use Rattle.pack_update.proofs.AddLemmas.{added_is, are_new, next_is, unwritten}
-use Rattle.pack_update.proofs.Apart.{alone_or, both_or}
+use Rattle.pack_update.proofs.Apart.{alone_or, both_or, of_nodes}
 use Rattle.pack_update.proofs.NodeLists.{all_nodes}
 use Rattle.pack_update.proofs.PlaceLemmas.{earlier_true, further_size}
 use Rattle.pack_update.proofs.ToldLemmas.{add_early, add_source, as_no_manifest, no_result, not_no_manifest, not_writers, refused_as, write_begun, write_untouched}
@@ -27,10 +27,10 @@ pub returns-clause-safe : goal.returns-clause-safe
 returns-clause-safe g c = λ p is.
     let all = c.args.changes.now in
     let update = c.in_ok-update.update in
-    let (seen, plan) = c.in_ok-planned.ensures.under in
-    let (others, rebuild) = c.in_ok-update.ensures.under in
+    let (seen, bytes_seen, plan) = c.in_ok-planned.ensures.under in
+    let (others, other_bytes, rebuild) = c.in_ok-update.ensures.under in
     let (added, are, appended, told) = c.in_ok-header.ensures.written in
-    elim (both_or p seen others (IsPlannedFor p c.args.root.now.0 all c.in_ok-planned.planned) (IsUpdateBy p all update) (λ alone. (plan p is alone).0) (λ alone free planned. (rebuild p all is alone free planned).0)) [
+    elim (both_or p seen others (IsPlannedFor p c.args.root.now.0 all c.in_ok-planned.planned) (IsUpdateBy p all update) is.published bytes_seen other_bytes (λ alone. (plan p is alone).0) (λ alone free planned. (rebuild p all is alone free planned).0)) [
       | inl clash ↦ inr clash
       | inr made ↦ inl (
         made.0,
@@ -49,13 +49,13 @@ returns-clause-whole g c = λ p contents is reads had count.
     let sight = earlier_place number known in
     let bytes = bytes_of c.as_slice-nodes.result.now in
     let header = c.in_ok-header.header in
-    let (seen, plan) = c.in_ok-planned.ensures.under in
-    let (others, rebuild) = c.in_ok-update.ensures.under in
+    let (seen, bytes_seen, plan) = c.in_ok-planned.ensures.under in
+    let (others, other_bytes, rebuild) = c.in_ok-update.ensures.under in
     let (added, are, appended, told) = c.in_ok-header.ensures.written in
     let over = c.in_ok-known.ensures.over (joined contents) had.places had.nodes reads had.are (ap had.places is.is ∙ had.rooted) had.near in
-    elim (both_or p seen others (IsPlannedFor p c.args.root.now.0 all c.in_ok-planned.planned) (IsUpdateBy p all update) (λ alone. (plan p is alone).0) (λ alone free planned. (rebuild p all is alone free planned).0)) [
+    elim (both_or p seen others (IsPlannedFor p c.args.root.now.0 all c.in_ok-planned.planned) (IsUpdateBy p all update) is.published bytes_seen other_bytes (λ alone. (plan p is alone).0) (λ alone free planned. (rebuild p all is alone free planned).0)) [
       | inl clash ↦ inr clash
-      | inr made ↦ elim (alone_or p (all_nodes made.0)) [
+      | inr made ↦ elim (alone_or p (all_nodes made.0) (of_nodes made.0 made.3.is.published)) [
         | inl clash ↦ inr clash
         | inr alone ↦
             let q = made.0 in
@@ -126,8 +126,8 @@ returns-in_err-planned-clause-refused g c = λ p is.
     let fault = c.in_err-planned.field-0.0 in
     let all = c.args.changes.now in
     let number = c.args.number in
-    let (seen, plan) = c.in_err-planned.ensures.under in
-    elim (alone_or p seen) [
+    let (seen, bytes_seen, plan) = c.in_err-planned.ensures.under in
+    elim (alone_or p seen (λ other has. inl (bytes_seen other has))) [
       | inl clash ↦ inr clash
       | inr alone ↦ inl (refused_as (IsAddReason p all number) c.from_residual.result fault c.from_residual.ensures.1 (add_early p all number fault (plan p is alone).1))
     ]
@@ -137,9 +137,9 @@ returns-in_err-update-clause-refused g c = λ p is.
     let fault = c.in_err-update.field-0.0 in
     let all = c.args.changes.now in
     let number = c.args.number in
-    let (seen, plan) = c.in_ok-planned.ensures.under in
-    let (others, rebuild) = c.in_err-update.ensures.under in
-    elim (both_or p seen others (IsPlannedFor p c.args.root.now.0 all c.in_ok-planned.planned) (IsEarlyReason p all fault) (λ alone. (plan p is alone).0) (λ alone free planned. (rebuild p all is alone free planned).1)) [
+    let (seen, bytes_seen, plan) = c.in_ok-planned.ensures.under in
+    let (others, other_bytes, rebuild) = c.in_err-update.ensures.under in
+    elim (both_or p seen others (IsPlannedFor p c.args.root.now.0 all c.in_ok-planned.planned) (IsEarlyReason p all fault) is.published bytes_seen other_bytes (λ alone. (plan p is alone).0) (λ alone free planned. (rebuild p all is alone free planned).1)) [
       | inl clash ↦ inr clash
       | inr early ↦ inl (refused_as (IsAddReason p all number) c.from_residual-in_err-update.result fault c.from_residual-in_err-update.ensures.1 (add_early p all number fault early))
     ]
@@ -155,9 +155,9 @@ returns-in_err-header-clause-refused g c = λ p is.
     let all = c.args.changes.now in
     let number = c.args.number in
     let update = c.in_ok-update.update in
-    let (seen, plan) = c.in_ok-planned.ensures.under in
-    let (others, rebuild) = c.in_ok-update.ensures.under in
-    elim (both_or p seen others (IsPlannedFor p c.args.root.now.0 all c.in_ok-planned.planned) (IsUpdateBy p all update) (λ alone. (plan p is alone).0) (λ alone free planned. (rebuild p all is alone free planned).0)) [
+    let (seen, bytes_seen, plan) = c.in_ok-planned.ensures.under in
+    let (others, other_bytes, rebuild) = c.in_ok-update.ensures.under in
+    elim (both_or p seen others (IsPlannedFor p c.args.root.now.0 all c.in_ok-planned.planned) (IsUpdateBy p all update) is.published bytes_seen other_bytes (λ alone. (plan p is alone).0) (λ alone free planned. (rebuild p all is alone free planned).0)) [
       | inl clash ↦ inr clash
       | inr made ↦ inl (refused_as (IsAddReason p all number) c.from_residual-in_err-header.result (Write fault) c.from_residual-in_err-header.ensures.1
           (unwritten p all update made number (earlier_place number c.in_ok-known.known) c.as_slice-nodes.result.now fault c.as_slice-nodes.ensures.value c.in_err-header.ensures.refused))

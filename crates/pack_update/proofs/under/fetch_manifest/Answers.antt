@@ -1,5 +1,6 @@
 use Rattle.std.proofs.Common.{ap, refl, subst, sym, ◌∙◌}
 use Rattle.tree_node.specs.Digests.{digest}
+use Rattle.tree_node.specs.Keys.{key_of}
 use Rattle.outside_shelf.specs.Shelves.{HasBrought}
 use Rattle.pack_update.specs.internal.Updating.{IsUnread}
 use Rattle.pack_update.proofs.under.fetch_manifest.Goals as goal
@@ -20,6 +21,7 @@ returns-in-Some-clause-read g c = (
 pub returns-in-None-clause-unread : goal.returns-in-None-clause-unread
 returns-in-None-clause-unread g c = record {
   bytes = c.in-Ok.bytes.now;
+  are = c.fetch.new.self.bytes (key_of c.in-Ok.bytes.now) c.in-Ok.bytes.now c.in-Ok.ensures.given.0;
   has_root = c.in-Ok.ensures.given.1;
   none = c.in-None.ensures.none refl;
 }

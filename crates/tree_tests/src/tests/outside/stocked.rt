@@ -2,11 +2,11 @@
 
 use super::{LAST, LAST_KEY, LEAF, LEAF_KEY, Listed, TOP, TOP_KEY, TREE, Turned};
 use bumpalo::Bump;
-use outside_shelf::{NodeSource, ProofShelf, Refused, SourceFault, StockedShelf};
+use outside_shelf::{NodeSource, NodeStock, ProofShelf, Refused, SourceFault, StockedShelf};
 use std::alloc::{AllocError, Global};
 use std::process::Abort;
 use std::test::Fail;
-use tree_node::{Digest, NewNode, Shelf, ShelfFault, Stock};
+use tree_node::{Digest, NewNode, Shelf, ShelfFault};
 
 /// The nodes of the tree, each after its digest, as a proof lists them: by rising digest.
 const RISING: [(Digest, &[u8]); 3] = [(TOP_KEY, TOP), (LAST_KEY, LAST), (LEAF_KEY, LEAF)];
@@ -29,9 +29,9 @@ impl NodeSource for Bare {
 }
 
 /// A stock with the first leaf alone.
-fn stock_of_leaf(alloc: Global) -> Result<Stock, Fail> {
-    let mut stock = Stock::new(alloc);
-    stock.put(LEAF.to_vec(alloc)?)?;
+fn stock_of_leaf(alloc: Global) -> Result<NodeStock, Fail> {
+    let mut stock = NodeStock::new(alloc);
+    stock.put(NewNode::new(LEAF.to_vec(alloc)?))?;
     Ok(stock)
 }
 
@@ -108,7 +108,7 @@ fn gives_the_tree<'a, N: NodeSource + Drop>(
 }
 
 /// Copies of what is brought for the whole tree.
-fn copies_of_tree(rt: &impl Abort, alloc: Global, stock: &Stock) -> Result<Vec<NewNode>, Fail> {
+fn copies_of_tree(rt: &impl Abort, alloc: Global, stock: &NodeStock) -> Result<Vec<NewNode>, Fail> {
     let arena = Bump::new(alloc);
     let mut shelf = StockedShelf::new(alloc, stock, &arena, Listed, None);
     gives_the_tree(rt, &mut shelf)?;
@@ -122,7 +122,7 @@ fn keeps_what_was_brought_within_memory(rt: HostRuntime) -> Result<(), Fail> {
     let copies = copies_of_tree(&rt, rt.alloc(), &stock)?;
     assert!(rt; copies.len() == 2 && copies[0].digest == TOP_KEY && copies[1].digest == LAST_KEY);
     for copy in copies {
-        stock.put_new(copy)?;
+        stock.put(copy)?;
     }
     let arena = Bump::new(rt.alloc());
     let mut shelf = StockedShelf::new(rt.alloc(), &stock, &arena, Bare, Some(0));
@@ -136,7 +136,7 @@ fn keeps_what_was_brought_within_memory(rt: HostRuntime) -> Result<(), Fail> {
 #[test]
 fn refuses_what_is_not_the_node(rt: HostRuntime) -> Result<(), Fail> {
     let arena = Bump::new(rt.alloc());
-    let stock = Stock::new(rt.alloc());
+    let stock = NodeStock::new(rt.alloc());
     let first = Some(Ok(LAST));
     let mut shelf = StockedShelf::new(rt.alloc(), &stock, &arena, Turned { first }, Some(1000));
     assert!(rt; shelf.fetch(&LEAF_KEY) == Err(ShelfFault::Missing));
@@ -153,7 +153,7 @@ fn refuses_what_is_not_the_node(rt: HostRuntime) -> Result<(), Fail> {
 #[test]
 fn hands_hints_on(rt: HostRuntime) {
     let arena = Bump::new(rt.alloc());
-    let stock = Stock::new(rt.alloc());
+    let stock = NodeStock::new(rt.alloc());
     let first = Some(Err(SourceFault::Device));
     let mut shelf = StockedShelf::new(rt.alloc(), &stock, &arena, Turned { first }, None);
     shelf.announce(&TOP_KEY, b"a", b"b");

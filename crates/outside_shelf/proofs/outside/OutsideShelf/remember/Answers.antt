@@ -1,5 +1,6 @@
 use Rattle.std.proofs.Common.{◌≡◌, List, ℕ, Some, inl, refl, sym}
 use Rattle.tree_node.specs.Digests.{digest}
+use Rattle.tree_node.specs.Nodes.{AreBytes}
 use Rattle.tree_node.specs.Parts.{node_of}
 use Rattle.tree_node.specs.declared.digest.Digest.{Digest}
 use Rattle.tree_node.proofs.shared.MapLemmas.{each_inserted, put_grows, update_sets}
@@ -15,6 +16,8 @@ invariant_of-self g c =
     record {
       own = each_inserted (λ (q : Digest) (x : List ℕ). digest x ≡ q.0) node_of brought c.insert.new.self key c.args.part c.insert.result
           c.insert.ensures.updates c.insert.ensures.err own c.args.self.now.own;
+      bytes = each_inserted (λ (q : Digest) (x : List ℕ). AreBytes x) node_of brought c.insert.new.self key c.args.part c.insert.result
+          c.insert.ensures.updates c.insert.ensures.err c.requires.bytes c.args.self.now.bytes;
       within = room_kept brought c.insert.new.self key c.args.part c.args.self.now.bound c.insert.result
           c.insert.ensures.old c.insert.ensures.entries c.insert.ensures.err
           (none_there (brought_at brought) key (brought_at brought key) refl (c.args.self.now.own key) c.requires.fresh) c.requires.room;

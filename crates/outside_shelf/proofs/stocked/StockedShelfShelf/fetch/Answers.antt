@@ -11,7 +11,7 @@ use Rattle.outside_shelf.proofs.stocked.StockedShelfShelf.fetch.Goals as goal
 -- the stock has it
 
 pub invariant_of-self : goal.invariant_of-self
-invariant_of-self g c = record { apart = λ node brought x held. c.args.self.now.apart node brought x ((c.fetch.ensures.stays x).0 refl held) }
+invariant_of-self g c = record { apart = λ node brought x held. c.args.self.now.apart node brought x ((c.fetch.ensures.stays x).0 refl held); stocked = λ node held. c.args.self.now.stocked node ((c.fetch.ensures.stays node).0 refl held) }
 
 pub returns-in-Ok-clause-grown : goal.returns-in-Ok-clause-grown
 returns-in-Ok-clause-grown g c = grown_first (RecorderUsed c.args.self.now.recorder) (RecorderUsed c.fetch.new.self) (HasBrought c.args.self.now.outside) c.in-Ok.node.now c.in-Ok.ensures.grown
@@ -31,7 +31,7 @@ returns-in-Ok-clause-costs g c = inl ((c.fetch.ensures.stays c.in-Ok.node.now).0
 -- memory ran out
 
 pub invariant_of-self-in-Err-Memory : goal.invariant_of-self-in-Err-Memory
-invariant_of-self-in-Err-Memory g c = record { apart = λ node brought x held. c.args.self.now.apart node brought x ((c.fetch.ensures.stays x).0 refl held) }
+invariant_of-self-in-Err-Memory g c = record { apart = λ node brought x held. c.args.self.now.apart node brought x ((c.fetch.ensures.stays x).0 refl held); stocked = λ node held. c.args.self.now.stocked node ((c.fetch.ensures.stays node).0 refl held) }
 
 pub returns-in-Err-Memory-clause-grows : goal.returns-in-Err-Memory-clause-grows
 returns-in-Err-Memory-clause-grows g c = λ x. both_kept (c.fetch.ensures.grows x) (λ h. h)
@@ -56,7 +56,7 @@ returns-in-Err-Memory-clause-spent g c = λ none.
 -- the source is asked
 
 pub invariant_of-self-in-Err-Missing : goal.invariant_of-self-in-Err-Missing
-invariant_of-self-in-Err-Missing g c = record { apart = λ node brought x held. c.args.self.now.apart node brought x ((c.fetch.ensures.stays x).0 refl held) }
+invariant_of-self-in-Err-Missing g c = record { apart = λ node brought x held. c.args.self.now.apart node brought x ((c.fetch.ensures.stays x).0 refl held); stocked = λ node held. c.args.self.now.stocked node ((c.fetch.ensures.stays node).0 refl held) }
 
 pub bring-requires : goal.bring-requires
 bring-requires g c = c.in-Err-Missing.ensures.missing (ap Err c.in-Err-Missing.field-0-is)

@@ -11,7 +11,7 @@ use Rattle.outside_shelf.proofs.stocked.StockedShelfShelf.fetch_node.Goals as go
 -- the stock has it
 
 pub invariant_of-self : goal.invariant_of-self
-invariant_of-self g c = record { apart = λ node brought x held. c.args.self.now.apart node brought x ((c.fetch_node.ensures.stays x).0 refl held) }
+invariant_of-self g c = record { apart = λ node brought x held. c.args.self.now.apart node brought x ((c.fetch_node.ensures.stays x).0 refl held); stocked = λ node held. c.args.self.now.stocked node ((c.fetch_node.ensures.stays node).0 refl held) }
 
 pub returns-in-Ok-clause-given : goal.returns-in-Ok-clause-given
 returns-in-Ok-clause-given g c =
@@ -38,7 +38,7 @@ returns-in-Ok-clause-costs g c = inl ((c.fetch_node.ensures.stays c.in-Ok.node.b
 -- memory ran out
 
 pub invariant_of-self-in-Err-Memory : goal.invariant_of-self-in-Err-Memory
-invariant_of-self-in-Err-Memory g c = record { apart = λ node brought x held. c.args.self.now.apart node brought x ((c.fetch_node.ensures.stays x).0 refl held) }
+invariant_of-self-in-Err-Memory g c = record { apart = λ node brought x held. c.args.self.now.apart node brought x ((c.fetch_node.ensures.stays x).0 refl held); stocked = λ node held. c.args.self.now.stocked node ((c.fetch_node.ensures.stays node).0 refl held) }
 
 pub returns-in-Err-Memory-clause-grows : goal.returns-in-Err-Memory-clause-grows
 returns-in-Err-Memory-clause-grows g c = λ x. both_kept (c.fetch_node.ensures.grows x) (λ h. h)
@@ -63,7 +63,7 @@ returns-in-Err-Memory-clause-spent g c = λ none.
 -- the source is asked
 
 pub invariant_of-self-in-Err-Missing : goal.invariant_of-self-in-Err-Missing
-invariant_of-self-in-Err-Missing g c = record { apart = λ node brought x held. c.args.self.now.apart node brought x ((c.fetch_node.ensures.stays x).0 refl held) }
+invariant_of-self-in-Err-Missing g c = record { apart = λ node brought x held. c.args.self.now.apart node brought x ((c.fetch_node.ensures.stays x).0 refl held); stocked = λ node held. c.args.self.now.stocked node ((c.fetch_node.ensures.stays node).0 refl held) }
 
 pub bring-requires : goal.bring-requires
 bring-requires g c = c.in-Err-Missing.ensures.missing (ap Err c.in-Err-Missing.field-0-is)
