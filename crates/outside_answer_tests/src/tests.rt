@@ -103,7 +103,15 @@ fn answered(
         turned,
     };
     let mut shelf = OutsideShelf::new(alloc, &arena, source, limits.bytes);
-    Ok(answer_from(alloc, &mut shelf, &query, root, Form::Opl, limits.work, sink))
+    Ok(answer_from(
+        alloc,
+        &mut shelf,
+        &query,
+        root,
+        Form::Opl,
+        limits.work,
+        sink,
+    ))
 }
 
 /// From a source that has all nodes comes the answer that a mirror gives.

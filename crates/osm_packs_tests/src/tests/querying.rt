@@ -57,11 +57,24 @@ fn gives_back_what_was_read(rt: HostRuntime) -> Result<(), Fail> {
     let arena = Bump::new(alloc);
     let mut output = Vec::new(alloc);
     let text = QUERY.as_bytes();
-    let nodes = query(alloc, &arena, Form::Opl, &ROOT, text, NO_LIMITS, PACK, &mut output)?;
+    let nodes = query(
+        alloc,
+        &arena,
+        Form::Opl,
+        &ROOT,
+        text,
+        NO_LIMITS,
+        PACK,
+        &mut output,
+    )?;
     let parts = nodes.parts(alloc)?;
     assert_eq!(rt; parts.len(), 2);
     assert_eq!(rt; nodes.brought_len(), 430);
-    assert!(rt; parts.iter().any(|part| part.digest() == ROOT && part.bytes().len() == 141));
+    assert!(rt;
+        parts
+            .iter()
+            .any(|part| part.digest() == ROOT && part.bytes().len() == 141)
+    );
     Ok(())
 }
 
