@@ -35,20 +35,14 @@ use Rattle.osm_packs.specs.internal.Faults.{IsOfNodes, fault_of_answer, fault_of
 use Rattle.osm_packs.specs.declared.not_answered.NotAnswered.{NotAnswered}
 use Rattle.osm_packs.specs.declared.not_answered.NotAnswered.TheVariants.{Device, Evaluation, Memory, Node, OtherRoot, Pack, Query, Work}
 
--- what an empty text has gained is right
-pub right_text : (p : Publication) (form : Form) (query : List ℕ) (statements : Statements) (These : List ℕ → Type 0) (old new : List ℕ) → Reads query statements → old ≡ []
+-- what an empty text has gained is right, where the other nodes are byte strings
+pub right_text : (p : Publication) (form : Form) (query : List ℕ) (statements : Statements) (These : List ℕ → Type 0) (old new : List ℕ) → ((x : List ℕ) → These x → AreBytes x) → Reads query statements → old ≡ []
     → HasWrittenMeaning_by (form_text form) p statements (λ (text : List ℕ). old ≡ text) (λ (text : List ℕ). new ≡ text) ⊎ Clash (IsNeeded p statements) These
-    → IsRight p form query These new
-right_text p form query statements These old new reads empty (inl (text, means, written)) =
+    → IsRight p form query new
+right_text p form query statements These old new bytes reads empty (inl (text, means, written)) =
     inl (record { statements = statements; reads = reads; means = subst (λ (t : List ℕ). Means_by (form_text form) p.objects statements t) (sym (written.all [] empty)) means })
-right_text p form query statements These old new reads empty (inr clash) = inr (record { statements = statements; reads = reads; clash = clash })
-
--- where one of a set of byte strings clashes, a byte string does
-pub right_of_bytes : (p : Publication) (form : Form) (query : List ℕ) (These : List ℕ → Type 0) → ((x : List ℕ) → These x → AreBytes x) → (text : List ℕ) → IsRight p form query These text → IsRight p form query AreBytes text
-right_of_bytes p form query These bytes text (inl right) = inl right
-right_of_bytes p form query These bytes text (inr clashes) =
-    let clash = clashes.clash in
-    inr (record { statements = clashes.statements; reads = clashes.reads; clash = (clash.0, clash.1, clash.2, bytes clash.1 clash.3, clash.4, clash.5) })
+right_text p form query statements These old new bytes reads empty (inr clash) =
+    inr (record { statements = statements; reads = reads; clash = (clash.0, clash.1, clash.2, bytes clash.1 clash.3, clash.4, clash.5) })
 
 -- nor does a node of a publication clash with one of them, where it has no second preimage
 pub no_clash : (p : Publication) (These : List ℕ → Type 0) → ((x : List ℕ) → These x → AreBytes x) → ¬ HaveSecondPreimage (IsNodeOf p) → HasNoClash p These

@@ -3,8 +3,6 @@
 use Rattle.std.specs.Prelude.{◌≡◌, ◌≢◌, ◌⊎◌, ℕ, List, Option, Result, Ok, Err, ⊤, length, take}
 use Rattle.std.specs.Io.KnownBytes.{Appends}
 use Rattle.byte_io.specs.Written.{AppendsFront}
-use Rattle.tree_node.specs.Nodes.{AreBytes}
-use Rattle.tree_node.specs.Outcomes.{Clash}
 use Rattle.osm_forms.specs.Documents.{document_in}
 use Rattle.osm_forms.specs.Forms.{form_text}
 use Rattle.osm_forms.specs.declared.form.Form.{Form}
@@ -17,6 +15,7 @@ use Rattle.ql_eval.specs.declared.fault.EvalFault.{EvalFault}
 use Rattle.ql_eval.specs.declared.fault.EvalFault.TheVariants as evaluations
 use Rattle.osm_prove.specs.Budgets.{IsTooMuch, IsWithinBudget}
 use Rattle.osm_check.specs.Verdicts.{IsReadable}
+use Rattle.outside_shelf.specs.SecondPreimages.{HaveSecondPreimage}
 use Rattle.outside_shelf.specs.declared.refused.Refused.{Refused}
 use Rattle.outside_shelf.specs.declared.refused.Refused.TheVariants as reasons
 use Rattle.node_pack.specs.Headers.{header_at}
@@ -36,23 +35,23 @@ pub record IsTextOf (p : Publication) (form : Form) (query text : List ℕ) : Ty
   pub reads : Reads query statements
   pub means : Means_by (form_text form) p.objects statements text
 
--- a node that the query needs and a different one of these have one digest
-pub record Clashes (p : Publication) (query : List ℕ) (These : List ℕ → Type 0) : Type 0 where
+-- a node that the query needs and another byte string have one digest
+pub record Clashes (p : Publication) (query : List ℕ) : Type 0 where
   pub statements : Statements
   pub reads : Reads query statements
-  pub clash : Clash (IsNeeded p statements) These
+  pub clash : HaveSecondPreimage (IsNeeded p statements)
 
--- the text is right, unless a node clashes with one of these
-abbrev pub IsRight : Publication → Form → (query : List ℕ) → (List ℕ → Type 0) → (text : List ℕ) → Type 0
-IsRight p form query These text = IsTextOf p form query text ⊎ Clashes p query These
+-- the text is right, unless nodes clash
+abbrev pub IsRight : Publication → Form → (query text : List ℕ) → Type 0
+IsRight p form query text = IsTextOf p form query text ⊎ Clashes p query
 
 -- the output has gained the document of a right text
-abbrev pub HasAnswered : Publication → Form → (query : List ℕ) → (List ℕ → Type 0) → (old new : Option (List ℕ)) → Type 0
-HasAnswered p form query These old new = (text : List ℕ) × IsRight p form query These text × Appends old new (document_in form text)
+abbrev pub HasAnswered : Publication → Form → (query : List ℕ) → (old new : Option (List ℕ)) → Type 0
+HasAnswered p form query old new = (text : List ℕ) × IsRight p form query text × Appends old new (document_in form text)
 
--- The output has gained a beginning of it. Here the other node may be any byte string.
+-- the output has gained a beginning of it
 abbrev pub HasBegun : Publication → Form → (query : List ℕ) → (old new : Option (List ℕ)) → Type 0
-HasBegun p form query old new = (text : List ℕ) × IsRight p form query AreBytes text × AppendsFront old new (document_in form text)
+HasBegun p form query old new = (text : List ℕ) × IsRight p form query text × AppendsFront old new (document_in form text)
 
 -- there is an answer only where the work is within the budget, and the query is refused for the budget only where it is too
 -- much

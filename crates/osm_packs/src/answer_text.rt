@@ -1,4 +1,4 @@
-//! The text of an answer, from the nodes that a shelf gives.
+//! The text of an answer, from the nodes of a source.
 
 ghost use Rattle.std.specs.Prelude.{◌≡◌, ◌≢◌, ℕ, Err, IfErr, IfOk, List, None};
 ghost use Rattle.tree_node.specs.Digests.{digest as digest_word};
@@ -6,43 +6,48 @@ ghost use Rattle.osm_forms.specs.Forms.{form_text};
 ghost use Rattle.osm_keys.specs.Manifests.{manifest_bytes};
 ghost use Rattle.osm_keys.specs.Publications.{IsPublication, Publication, root_of};
 ghost use Rattle.osm_keys.specs.declared.manifest.Manifest.{Manifest};
-ghost use Rattle.ql_eval.specs.Work.{HasNoClash};
+ghost use Rattle.ql_eval.specs.Work.{IsNodeOf};
 ghost use Rattle.ql_syntax.specs.Queries.{Reads};
 ghost use Rattle.ql_syntax.specs.StatementViews.{statements_of};
 ghost use Rattle.osm_prove.specs.Budgets.{IsWorkOf};
+ghost use Rattle.outside_shelf.specs.SecondPreimages.{HaveSecondPreimage};
 ghost use Rattle.osm_packs.specs.Querying.{IsRight, KeepsBudget};
 ghost use Rattle.osm_packs.specs.internal.Faults.{IsOfNodes, fault_of_answer, fault_of_evaluation, fault_of_reason};
 
+use crate::limits::Limits;
 use crate::not_answered::NotAnswered;
+use bumpalo::Bump;
 use osm_forms::Form;
 use outside_answer::{AnswerFault, answer_from};
-use outside_shelf::{ProofShelf, Refused};
+use outside_shelf::{NodeSource, OutsideShelf, Refused};
 use ql_eval::EvalFault;
 use ql_syntax::Query;
 use std::alloc::Global;
 use tree_node::Digest;
 
-/// The text that a query's objects have in the form, from the nodes that a shelf gives, with at most so much work.
-pub(crate) fn answer_text<'a, S: ProofShelf<'a>>(
+/// The text that a query's objects have in the form, from the nodes of a source. Nothing that it gives is trusted.
+pub(crate) fn answer_text<N: NodeSource + Drop>(
     alloc: Global,
     form: Form,
     root: &Digest,
     query: &Query<'_>,
-    most: Option<u64>,
-    nodes: &mut S,
+    limits: Limits,
+    source: N,
 ) -> Result<Vec<u8>, NotAnswered>
     ensures right { (p : Publication) (text : List ℕ) → Reads text (statements_of query.now)
         → IsPublication p → root.now.0 ≡ root_of p
-        → IfOk result (λ found. IsRight p form text (S.used nodes.new) found.items) }
+        → IfOk result (λ found. IsRight p form text found.items) }
     ensures rooted { IfOk result (λ _. (found : Manifest) × (digest_word (manifest_bytes found) ≡ root.now.0)) }
     ensures budget { (p : Publication) (text : List ℕ) → Reads text (statements_of query.now)
-        → IsPublication p → root.now.0 ≡ root_of p → HasNoClash p (S.used nodes.new)
-        → KeepsBudget (IsWorkOf (form_text form) p text) most result }
-    ensures limited { most ≡ None → result ≢ Err NotAnswered.Work }
+        → IsPublication p → root.now.0 ≡ root_of p → ¬ HaveSecondPreimage (IsNodeOf p)
+        → KeepsBudget (IsWorkOf (form_text form) p text) limits.work result }
+    ensures limited { limits.work ≡ None → result ≢ Err NotAnswered.Work }
     ensures told { IfErr result IsOfNodes }
 {
+    let arena = Bump::new(alloc);
+    let mut nodes = OutsideShelf::new(alloc, &arena, source, limits.bytes);
     let mut text = Vec::new(alloc);
-    match answer_from(alloc, nodes, query, root, form, most, &mut text) {
+    match answer_from(alloc, &mut nodes, query, root, form, limits.work, &mut text) {
         Ok(_) => Ok(text),
         Err(fault) => Err(fault_of_answer(fault)),
     }

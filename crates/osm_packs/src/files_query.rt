@@ -11,18 +11,15 @@ ghost use Rattle.ql_eval.specs.Work.{IsNodeOf};
 ghost use Rattle.osm_prove.specs.Budgets.{IsWorkOf};
 ghost use Rattle.osm_check.specs.Verdicts.{IsReadable};
 ghost use Rattle.outside_shelf.specs.SecondPreimages.{HaveSecondPreimage};
-ghost use Rattle.outside_shelf.specs.Shelves.{HasBrought};
 ghost use Rattle.osm_packs.specs.Querying.{ExplainsInFiles, HasAnswered, HasBegun, IsRight, KeepsBudget};
 
-use crate::found_text::{FoundText, text_found};
+use crate::answer_text::answer_text;
 use crate::limits::Limits;
 use crate::not_answered::NotAnswered;
 use crate::query_command::{fault_of_pack, fault_of_query};
-use bumpalo::Bump;
 use node_pack::{PackSource, Place, ReadAt};
 use osm_commands::{FlushingWriter, write_document};
 use osm_forms::Form;
-use outside_shelf::OutsideShelf;
 use ql_syntax::parse;
 use std::alloc::Global;
 use tree_node::Digest;
@@ -33,9 +30,8 @@ use tree_node::Digest;
 /// # Errors
 ///
 /// Those of `query`: `OtherRoot` where the head states another root, and `Pack` only with `Device`, where the files can't be opened.
-pub fn query_files<'a, F: ReadAt + Drop, W: FlushingWriter>(
+pub fn query_files<F: ReadAt + Drop, W: FlushingWriter>(
     alloc: Global,
-    arena: &'a Bump,
     form: Form,
     root: &Digest,
     query: &[u8],
@@ -44,12 +40,12 @@ pub fn query_files<'a, F: ReadAt + Drop, W: FlushingWriter>(
     stated: &Digest,
     manifest: Place,
     output: &mut W,
-) -> Result<OutsideShelf<'a, PackSource<F>>, NotAnswered>
+) -> Result<(), NotAnswered>
     // The headline: whatever the files hold, under the root of any publication the output has gained the document of the
-    // query's meaning over its set, unless a node that the query needs and a different one that was read have one digest.
+    // query's meaning over its set, unless a node that the query needs and another byte string have one
+    // digest.
     ensures right { (p : Publication) → IsPublication p → root.now.0 ≡ root_of p
-        → IfOk result (λ nodes. HasAnswered p form query.now (HasBrought nodes) (W.contents output.old)
-        (W.contents output.new)) }
+        → OnOk result (HasAnswered p form query.now (W.contents output.old) (W.contents output.new)) }
     // Where the output fails, it has a beginning of it.
     ensures begun { (p : Publication) → IsPublication p → root.now.0 ≡ root_of p
         → result ≡ Err NotAnswered.Device
@@ -71,19 +67,16 @@ pub fn query_files<'a, F: ReadAt + Drop, W: FlushingWriter>(
     ensures nothing { IfErr result (λ fault. fault ≢ NotAnswered.Device
         → Keeps (W.contents output.old) (W.contents output.new)) }
 {
-    let found = find_text_in_files(
-        alloc, arena, form, root, query, limits, files, stated, manifest,
-    )?;
-    match write_document(output, form, &found.text) {
-        Ok(()) => Ok(found.nodes),
+    let text = find_text_in_files(alloc, form, root, query, limits, files, stated, manifest)?;
+    match write_document(output, form, &text) {
+        Ok(()) => Ok(()),
         Err(_) => Err(NotAnswered::Device),
     }
 }
 
-/// The text that the query's objects have in the form, and the nodes that were read.
-fn find_text_in_files<'a, F: ReadAt + Drop>(
+/// The text that the query's objects have in the form.
+fn find_text_in_files<F: ReadAt + Drop>(
     alloc: Global,
-    arena: &'a Bump,
     form: Form,
     root: &Digest,
     query: &[u8],
@@ -91,9 +84,9 @@ fn find_text_in_files<'a, F: ReadAt + Drop>(
     files: F,
     stated: &Digest,
     manifest: Place,
-) -> Result<FoundText<'a, F>, NotAnswered>
+) -> Result<Vec<u8>, NotAnswered>
     ensures right { (p : Publication) → IsPublication p → root.now.0 ≡ root_of p
-        → IfOk result (λ found. IsRight p form query.now (HasBrought found.nodes) found.text.items) }
+        → IfOk result (λ text. IsRight p form query.now text.items) }
     ensures rooted { IfOk result (λ _. (found : Manifest) × (digest_word (manifest_bytes found) ≡ root.now.0)) }
     ensures budget { (p : Publication) → IsPublication p → root.now.0 ≡ root_of p
         → ¬ HaveSecondPreimage (IsNodeOf p)
@@ -114,5 +107,5 @@ fn find_text_in_files<'a, F: ReadAt + Drop>(
         Ok(source) => source,
         Err(fault) => return Err(fault_of_pack(fault)),
     };
-    text_found(alloc, arena, form, root, &query, limits, source)
+    answer_text(alloc, form, root, &query, limits, source)
 }

@@ -8,7 +8,6 @@
 mod answer_text;
 mod bounded_pack;
 mod files_query;
-mod found_text;
 mod limits;
 mod not_answered;
 mod pack_command;

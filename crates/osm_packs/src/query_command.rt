@@ -11,18 +11,15 @@ ghost use Rattle.ql_eval.specs.Work.{IsNodeOf};
 ghost use Rattle.osm_prove.specs.Budgets.{IsWorkOf};
 ghost use Rattle.osm_check.specs.Verdicts.{IsReadable};
 ghost use Rattle.outside_shelf.specs.SecondPreimages.{HaveSecondPreimage};
-ghost use Rattle.outside_shelf.specs.Shelves.{HasBrought};
 ghost use Rattle.osm_packs.specs.Querying.{Explains, HasAnswered, HasBegun, HasRoot, IsRight, KeepsBudget};
 ghost use Rattle.osm_packs.specs.internal.Faults.{fault_of_pack, fault_of_query};
 
-use crate::found_text::{FoundText, text_found};
+use crate::answer_text::answer_text;
 use crate::limits::Limits;
 use crate::not_answered::NotAnswered;
-use bumpalo::Bump;
 use node_pack::{PackFault, PackSource, ReadAt};
 use osm_commands::{FlushingWriter, write_document};
 use osm_forms::Form;
-use outside_shelf::OutsideShelf;
 use ql_syntax::{QlCause, QlFault, parse};
 use std::alloc::Global;
 use tree_node::Digest;
@@ -32,8 +29,7 @@ use tree_node::Digest;
 /// digested before it is taken. What the settings of the query ask for doesn't matter.
 ///
 /// Of the pack are read the header and the nodes that the query needs, each of them once, up to the limits. The memory is
-/// that of these nodes and of the answer, however large the pack is. The nodes lie in the arena; the shelf that has them is given
-/// back, since the answer is right unless one of them clashes with another node.
+/// that of these nodes and of the answer, however large the pack is.
 ///
 /// # Errors
 ///
@@ -42,21 +38,20 @@ use tree_node::Digest;
 /// what its header says, `TooMany` where the query needs more bytes than the limit. `Evaluation` where the root doesn't stand
 /// for a set of objects. `Work` where the query passes the budget. `Memory` where an allocation is refused. Nothing is written
 /// then. `Device` where the output fails, or takes nothing: a beginning of the document is written then.
-pub fn query<'a, F: ReadAt + Drop, W: FlushingWriter>(
+pub fn query<F: ReadAt + Drop, W: FlushingWriter>(
     alloc: Global,
-    arena: &'a Bump,
     form: Form,
     root: &Digest,
     query: &[u8],
     limits: Limits,
     pack: F,
     output: &mut W,
-) -> Result<OutsideShelf<'a, PackSource<F>>, NotAnswered>
+) -> Result<(), NotAnswered>
     // The headline: whatever the file holds, under the root of any publication the output has gained the document of the
-    // query's meaning over its set, unless a node that the query needs and a different one that was read have one digest.
+    // query's meaning over its set, unless a node that the query needs and another byte string have one
+    // digest.
     ensures right { (p : Publication) → IsPublication p → root.now.0 ≡ root_of p
-        → IfOk result (λ nodes. HasAnswered p form query.now (HasBrought nodes) (W.contents output.old)
-        (W.contents output.new)) }
+        → OnOk result (HasAnswered p form query.now (W.contents output.old) (W.contents output.new)) }
     // Where the output fails, it has a beginning of it.
     ensures begun { (p : Publication) → IsPublication p → root.now.0 ≡ root_of p
         → result ≡ Err NotAnswered.Device
@@ -77,25 +72,24 @@ pub fn query<'a, F: ReadAt + Drop, W: FlushingWriter>(
     ensures nothing { IfErr result (λ fault. fault ≢ NotAnswered.Device
         → Keeps (W.contents output.old) (W.contents output.new)) }
 {
-    let found = find_text(alloc, arena, form, root, query, limits, pack)?;
-    match write_document(output, form, &found.text) {
-        Ok(()) => Ok(found.nodes),
+    let text = find_text(alloc, form, root, query, limits, pack)?;
+    match write_document(output, form, &text) {
+        Ok(()) => Ok(()),
         Err(_) => Err(NotAnswered::Device),
     }
 }
 
-/// The text that the query's objects have in the form, and the nodes that were read.
-fn find_text<'a, F: ReadAt + Drop>(
+/// The text that the query's objects have in the form.
+fn find_text<F: ReadAt + Drop>(
     alloc: Global,
-    arena: &'a Bump,
     form: Form,
     root: &Digest,
     query: &[u8],
     limits: Limits,
     pack: F,
-) -> Result<FoundText<'a, F>, NotAnswered>
+) -> Result<Vec<u8>, NotAnswered>
     ensures right { (p : Publication) → IsPublication p → root.now.0 ≡ root_of p
-        → IfOk result (λ found. IsRight p form query.now (HasBrought found.nodes) found.text.items) }
+        → IfOk result (λ text. IsRight p form query.now text.items) }
     ensures rooted { IfOk result (λ _. (found : Manifest) × (digest_word (manifest_bytes found) ≡ root.now.0)) }
     ensures budget { (p : Publication) → IsPublication p → root.now.0 ≡ root_of p
         → ¬ HaveSecondPreimage (IsNodeOf p)
@@ -116,7 +110,7 @@ fn find_text<'a, F: ReadAt + Drop>(
     if source.root() != *root {
         return Err(NotAnswered::OtherRoot);
     }
-    text_found(alloc, arena, form, root, &query, limits, source)
+    answer_text(alloc, form, root, &query, limits, source)
 }
 
 /// What a query that doesn't read is to the command.

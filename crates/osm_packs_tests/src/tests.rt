@@ -1,7 +1,6 @@
 //! The commands over four objects and their pack.
 
 mod adding;
-mod asking;
 mod compacting;
 mod failing_pack;
 mod files_querying;

@@ -1,7 +1,6 @@
 -- What a call hands over: the document of an answer, or a table of what is missing of the pack; and why it hands over nothing.
 -- Source: this project.
 use Rattle.std.specs.Prelude.{◌≡◌, ◌≢◌, ◌⊎◌, ℕ, List}
-use Rattle.tree_node.specs.Nodes.{AreBytes}
 use Rattle.osm_forms.specs.Documents.{document_in}
 use Rattle.osm_forms.specs.declared.form.Form.{Form}
 use Rattle.osm_forms.specs.declared.form.Form.TheVariants as forms
@@ -32,7 +31,7 @@ pub record IsDocumentOf (p : Publication) (form : Form) (query document : List �
 
 -- it is the right document, unless a node that the query needs and another byte string have one digest
 abbrev pub IsAnswerOf : Publication → Form → (query document : List ℕ) → Type 0
-IsAnswerOf p form query document = IsDocumentOf p form query document ⊎ Clashes p query AreBytes
+IsAnswerOf p form query document = IsDocumentOf p form query document ⊎ Clashes p query
 
 -- The query reads, and this is the table of parts of the pack that are to be fetched for it: the pack has so many bytes, and
 -- pieces of it stand in these spans.

@@ -2,7 +2,6 @@
 
 ghost use Rattle.std.specs.Prelude.{◌≡◌, IfErr, IfOk, IfSome, List, OnOk, Some};
 ghost use Rattle.tree_node.specs.Digests.{digest as digest_word};
-ghost use Rattle.tree_node.specs.Nodes.{AreBytes};
 ghost use Rattle.osm_keys.specs.Manifests.{manifest_bytes};
 ghost use Rattle.osm_keys.specs.Publications.{IsPublication, Publication, root_of};
 ghost use Rattle.osm_keys.specs.declared.manifest.Manifest.{Manifest};
@@ -18,7 +17,6 @@ use crate::pieces::Pieces;
 use crate::reader::PieceReader;
 use crate::span::Span;
 use crate::stated::Stated;
-use bumpalo::Bump;
 use node_pack::PackFault;
 use osm_forms::Form;
 use osm_packs::{Limits, NotAnswered, query_files};
@@ -86,25 +84,21 @@ fn read_answer(
     document: &mut Vec<u8>,
 ) -> Result<(), NotAnswered>
     ensures right { (p : Publication) → IsPublication p → root.now.0 ≡ root_of p
-        → OnOk result (HasAnswered p form query.now AreBytes (Some document.old.items)
-        (Some document.new.items)) }
+        → OnOk result (HasAnswered p form query.now (Some document.old.items) (Some document.new.items)) }
     ensures rooted { OnOk result ((found : Manifest) × (digest_word (manifest_bytes found) ≡ root.now.0)) }
     ensures refused { IfErr result (ExplainsBy stated (ArePiecesOf reader.entry.pieces.now) query.now root.now.0) }
 {
-    let arena = Bump::new(alloc);
-    let nodes = match stated {
-        None => osm_packs::query(alloc, &arena, form, root, query, limits, reader, document)?,
+    match stated {
+        None => osm_packs::query(alloc, form, root, query, limits, reader, document),
         Some(
             Stated {
                 root: stated,
                 manifest,
             },
         ) => query_files(
-            alloc, &arena, form, root, query, limits, reader, &stated, manifest, document,
-        )?,
-    };
-    drop(nodes);
-    Ok(())
+            alloc, form, root, query, limits, reader, &stated, manifest, document,
+        ),
+    }
 }
 
 /// What comes of a fault, where these spans were noted.

@@ -3,7 +3,6 @@
 ghost use Rattle.pack_jobs.specs.Jobs.{IsQuery};
 
 use crate::server_querying::query_server;
-use bumpalo::Bump;
 use command_line::Job;
 use http_ranges::{Target, read_target};
 use node_pack::{PackFault, ReadAt};
@@ -47,18 +46,15 @@ impl Question<'_> {
         rt: &HostRuntime,
         pack: F,
     ) -> Result<(), NotAnswered> {
-        let arena = Bump::new(rt.alloc());
         query(
             rt.alloc(),
-            &arena,
             self.form,
             self.root,
             self.text.as_bytes(),
             self.limits,
             pack,
             &mut CleanOutput::new(rt),
-        )?;
-        Ok(())
+        )
     }
 
     /// Finds the answer in the files of a head, which are read as one, and prints it.
@@ -68,10 +64,8 @@ impl Question<'_> {
         head: &Head<'_>,
         files: Vec<F>,
     ) -> Result<(), NotAnswered> {
-        let arena = Bump::new(rt.alloc());
         query_files(
             rt.alloc(),
-            &arena,
             self.form,
             self.root,
             self.text.as_bytes(),
@@ -80,8 +74,7 @@ impl Question<'_> {
             &head.root,
             manifest_place(head),
             &mut CleanOutput::new(rt),
-        )?;
-        Ok(())
+        )
     }
 }
 

@@ -1,15 +1,16 @@
 //! Changes that are added to a pack.
 
-use super::asking::ask_files;
 use super::four_objects::{PACK, ROOT};
 use super::querying::NO_LIMITS;
 use command_devices::PlacingWriter;
 use node_pack::{Place, ReadAt};
 use opl_codec::{LoadFault, OplCause, OplFault};
 use osm_commands::Status;
+use osm_forms::Form;
 use osm_index::ApplyFault;
 use osm_model::{Kind, Ref};
 use osm_pack_changes::{NotAdded, add_to_pack};
+use osm_packs::query_files;
 use outside_shelf::Refused;
 use pack_files::JoinedFiles;
 use pack_head::{Head, HeadFile, read_head};
@@ -138,17 +139,18 @@ fn adds_changes(rt: HostRuntime) -> Result<(), Fail> {
     files.push(PACK)?;
     files.push(to.further.writer.taken.as_slice())?;
     let mut answer = Vec::new(alloc);
-    let manifest = Place {
-        at: head.manifest_at,
-        len: head.manifest_len,
-    };
-    ask_files(
+    query_files(
         alloc,
+        Form::Opl,
         &head.root,
         b"nwr;out ids;",
         NO_LIMITS,
         JoinedFiles::new(alloc, files),
-        (&head.root, manifest),
+        &head.root,
+        Place {
+            at: head.manifest_at,
+            len: head.manifest_len,
+        },
         &mut answer,
     )?;
     assert_eq!(rt; answer.as_slice(), b"n1\nn9\nw7\nw10\nr100\n".as_slice());

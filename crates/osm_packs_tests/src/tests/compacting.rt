@@ -3,12 +3,13 @@
 use super::adding::{
     CHANGES, NEVER, NEW_ROOT_LINE, Stops, Writers, add, first_head, new_writers, writer,
 };
-use super::asking::ask;
 use super::four_objects::{PACK, ROOT, ROOT_LINE};
 use super::querying::NO_LIMITS;
 use command_devices::PlacingWriter;
 use osm_commands::Status;
+use osm_forms::Form;
 use osm_pack_changes::{NotCompacted, compact_pack};
+use osm_packs::query;
 use outside_shelf::Refused;
 use pack_compact::CompactFault;
 use pack_files::JoinedFiles;
@@ -76,8 +77,9 @@ fn compacts_files(rt: HostRuntime) -> Result<(), Fail> {
     compact(&rt, &head, &[PACK, further], 100, &mut to)?;
     assert_eq!(rt; to.output.writer.taken.as_slice(), NEW_ROOT_LINE);
     let mut answer = Vec::new(alloc);
-    ask(
+    query(
         alloc,
+        Form::Opl,
         &head.root,
         b"nwr;out ids;",
         NO_LIMITS,

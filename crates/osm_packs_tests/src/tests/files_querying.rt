@@ -1,12 +1,12 @@
 //! The answers from files that are read as one.
 
-use super::asking::ask_files;
 use super::failing_pack::FailingPack;
 use super::four_objects::{PACK, ROOT};
 use super::querying::{ANSWERS, NO_LIMITS, QUERY};
 use command_devices::PlacingWriter;
 use node_pack::{PackFault, Place, ReadAt};
-use osm_packs::NotAnswered;
+use osm_forms::Form;
+use osm_packs::{NotAnswered, query_files};
 use outside_shelf::Refused;
 use ql_syntax::{QlCause, QlFault};
 use std::alloc::Global;
@@ -27,13 +27,15 @@ fn told<F: ReadAt + Drop>(
     output: &mut Vec<u8>,
 ) -> Result<(), NotAnswered> {
     let text = text.as_bytes();
-    ask_files(
+    query_files(
         alloc,
+        Form::Opl,
         &ROOT,
         text,
         NO_LIMITS,
         files,
-        (stated, MANIFEST),
+        stated,
+        MANIFEST,
         output,
     )
 }
@@ -110,13 +112,15 @@ fn refuses_another_manifest(rt: HostRuntime) -> Result<(), Fail> {
 fn a_write_of_an_answer_from_files_fails(rt: HostRuntime) -> Result<(), Fail> {
     let alloc = rt.alloc();
     let mut output = PlacingWriter::new(alloc, 3, Stop::Fails, false);
-    let told = ask_files(
+    let told = query_files(
         alloc,
+        Form::Opl,
         &ROOT,
         QUERY.as_bytes(),
         NO_LIMITS,
         PACK,
-        (&ROOT, MANIFEST),
+        &ROOT,
+        MANIFEST,
         &mut output,
     );
     assert_eq!(rt; told, Err(NotAnswered::Device));

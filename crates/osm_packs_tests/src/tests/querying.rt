@@ -1,9 +1,7 @@
 //! The command `query`.
 
-use super::asking::ask;
 use super::failing_pack::FailingPack;
 use super::four_objects::{PACK, ROOT};
-use bumpalo::Bump;
 use command_devices::PlacingWriter;
 use node_pack::PackFault;
 use osm_commands::Status;
@@ -44,37 +42,9 @@ fn answers(rt: HostRuntime) -> Result<(), Fail> {
     for (text, want) in ANSWERS {
         let mut output = Vec::new(alloc);
         let bytes = text.as_bytes();
-        ask(alloc, &ROOT, bytes, NO_LIMITS, PACK, &mut output)?;
+        query(alloc, Form::Opl, &ROOT, bytes, NO_LIMITS, PACK, &mut output)?;
         assert_eq!(rt; output.as_slice(), want.as_bytes(), "{text}");
     }
-    Ok(())
-}
-
-/// What was read is given back: of this query the manifest of 141 bytes and the leaf of 289 bytes.
-#[test]
-fn gives_back_what_was_read(rt: HostRuntime) -> Result<(), Fail> {
-    let alloc = rt.alloc();
-    let arena = Bump::new(alloc);
-    let mut output = Vec::new(alloc);
-    let text = QUERY.as_bytes();
-    let nodes = query(
-        alloc,
-        &arena,
-        Form::Opl,
-        &ROOT,
-        text,
-        NO_LIMITS,
-        PACK,
-        &mut output,
-    )?;
-    let parts = nodes.parts(alloc)?;
-    assert_eq!(rt; parts.len(), 2);
-    assert_eq!(rt; nodes.brought_len(), 430);
-    assert!(rt;
-        parts
-            .iter()
-            .any(|part| part.digest() == ROOT && part.bytes().len() == 141)
-    );
     Ok(())
 }
 
@@ -84,10 +54,10 @@ fn answers_within_memory(rt: HostRuntime) -> Result<(), Fail> {
     let alloc = rt.alloc();
     let mut output = Vec::new(alloc);
     let text = QUERY.as_bytes();
-    let first = ask(alloc, &ROOT, text, NO_LIMITS, PACK, &mut output);
+    let first = query(alloc, Form::Opl, &ROOT, text, NO_LIMITS, PACK, &mut output);
     if first == Err(NotAnswered::Memory) {
         assert!(rt; output.is_empty());
-        ask(alloc, &ROOT, text, NO_LIMITS, PACK, &mut output)?;
+        query(alloc, Form::Opl, &ROOT, text, NO_LIMITS, PACK, &mut output)?;
     } else {
         first?;
     }
@@ -105,7 +75,7 @@ fn told(
 ) -> Result<(), NotAnswered> {
     let mut output = Vec::new(alloc);
     let bytes = text.as_bytes();
-    let told = ask(alloc, root, bytes, limits, pack, &mut output);
+    let told = query(alloc, Form::Opl, root, bytes, limits, pack, &mut output);
     if output.is_empty() { told } else { Ok(()) }
 }
 
@@ -156,7 +126,7 @@ fn a_damaged_pack_gives_no_wrong_answer(rt: HostRuntime) -> Result<(), Fail> {
         let mut output = Vec::new(alloc);
         let text = QUERY.as_bytes();
         let pack = pack.as_slice();
-        match ask(alloc, &ROOT, text, NO_LIMITS, pack, &mut output) {
+        match query(alloc, Form::Opl, &ROOT, text, NO_LIMITS, pack, &mut output) {
             Ok(()) => assert_eq!(rt; output.as_slice(), ANSWERS[0].1.as_bytes(), "{at}"),
             Err(fault) => {
                 assert!(rt; output.is_empty());
@@ -208,7 +178,7 @@ fn keeps_limits(rt: HostRuntime) -> Result<(), Fail> {
         };
         let mut output = Vec::new(alloc);
         let text = QUERY.as_bytes();
-        let told = ask(alloc, &ROOT, text, limits, PACK, &mut output);
+        let told = query(alloc, Form::Opl, &ROOT, text, limits, PACK, &mut output);
         assert_eq!(rt; told, want, "{bytes} {work}");
         assert!(rt; told.is_ok() || output.is_empty());
     }
@@ -232,7 +202,7 @@ fn each_read_fails(rt: HostRuntime) -> Result<(), Fail> {
         let mut output = Vec::new(alloc);
         let text = QUERY.as_bytes();
         let pack = FailingPack::new(call);
-        let told = ask(alloc, &ROOT, text, NO_LIMITS, pack, &mut output);
+        let told = query(alloc, Form::Opl, &ROOT, text, NO_LIMITS, pack, &mut output);
         assert_eq!(rt; told, want, "{call}");
         assert!(rt; told.is_ok() || output.is_empty());
         if let Err(fault) = told {
@@ -255,7 +225,7 @@ fn each_write_fails(rt: HostRuntime) -> Result<(), Fail> {
     ] {
         let mut output = PlacingWriter::new(alloc, stops_at, stop, false);
         let text = QUERY.as_bytes();
-        let told = ask(alloc, &ROOT, text, NO_LIMITS, PACK, &mut output);
+        let told = query(alloc, Form::Opl, &ROOT, text, NO_LIMITS, PACK, &mut output);
         assert_eq!(rt; told, Err(NotAnswered::Device));
         assert!(rt; output.writer.taken.as_slice() == &want[..written]);
     }

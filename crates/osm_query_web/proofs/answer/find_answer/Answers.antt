@@ -1,6 +1,5 @@
 -- A fault comes to what is missing, or to itself.
 use Rattle.std.proofs.Common.{◌≡◌, ◌∙◌, ◌++◌, ℕ, List, ap, inl, inr}
-use Rattle.tree_node.specs.Nodes.{AreBytes}
 use Rattle.osm_forms.specs.Documents.{document_in}
 use Rattle.osm_forms.specs.declared.form.Form.{Form}
 use Rattle.osm_keys.specs.Publications.{Publication}
@@ -10,7 +9,7 @@ use Rattle.osm_query_web.specs.Answers.{IsAnswerOf}
 use Rattle.osm_query_web.specs.internal.Reading.{ArePiecesOf}
 use Rattle.osm_query_web.proofs.answer.find_answer.Goals as goal
 
-answer : (p : Publication) (form : Form) (query text document : List ℕ) → IsRight p form query AreBytes text → document ≡ document_in form text → IsAnswerOf p form query document
+answer : (p : Publication) (form : Form) (query text document : List ℕ) → IsRight p form query text → document ≡ document_in form text → IsAnswerOf p form query document
 answer p form query text document (inl right) is = inl (record { text = text; is_text = right; document_is = is })
 answer p form query text document (inr clash) is = inr clash
 
