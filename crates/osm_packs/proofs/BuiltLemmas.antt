@@ -1,5 +1,5 @@
 -- What the faults of the building of a pack in bounded memory are to the command.
-use Rattle.std.proofs.Common.{◌≡◌, ◌≢◌, ◌⊎◌, ◌∙◌, ℕ, List, Option, None, Some, IfSome, inl, inr, refl, sym, subst}
+use Rattle.std.proofs.Common.{◌≡◌, ◌≢◌, ◌∙◌, ℕ, List, Option, None, Some, IfSome, inl, inr, refl, sym, subst}
 use Rattle.osm_model.specs.Elements.{Element}
 use Rattle.opl_codec.specs.Files.{HoldsSet, IsReaderOrMemory, StopsFile}
 use Rattle.opl_codec.specs.declared.cause.OplCause.{OplCause}

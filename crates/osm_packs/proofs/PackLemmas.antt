@@ -1,7 +1,7 @@
 -- What a pack of a publication's nodes has, and why it isn't refused.
-use Rattle.std.proofs.Common.{◌≡◌, ◌⊎◌, ◌∙◌, ℕ, List, [], ◌∷◌, true, Option, None, Some, Result, Ok, Err, IfErr, IsErrAnd, inl, inr, refl, sym, subst}
-use Rattle.std.specs.Prelude.{◌↔◌, ◌≢◌, IfSome, ⊤}
-use Rattle.std.specs.List.{AllByRecursion, Contains}
+use Rattle.std.proofs.Common.{◌≡◌, ◌∙◌, ℕ, List, [], ◌∷◌, true, Option, None, Some, Result, Ok, Err, IfErr, IsErrAnd, inl, inr, refl, sym, subst}
+use Rattle.std.specs.Prelude.{◌≢◌, IfSome, ⊤}
+use Rattle.std.specs.List.{AllByRecursion}
 use Rattle.osm_keys.specs.Publications.{IsNodeIn, IsPublication, Publication, root_of}
 use Rattle.tree_node.specs.Digests.{digest}
 use Rattle.tree_node.specs.Shelves.{IsClashFree, SameNodes, Stays}

@@ -1,9 +1,9 @@
 -- The nodes of a publication, from the root down: what stands under the root are just these, each as it is referred to.
-use Rattle.std.proofs.Common.{◌≡◌, ◌⊎◌, ◌∙◌, ℕ, zero, suc, ◌+◌, ◌-◌, ◌<◌, ◌≤◌, List, [], ◌∷◌, ◌++◌, Result, Ok, Err, length, map, get_or, refl, sym, ap, subst, inl, inr, arith}
+use Rattle.std.proofs.Common.{◌≡◌, ◌∙◌, ℕ, zero, suc, ◌+◌, ◌-◌, ◌<◌, ◌≤◌, List, [], ◌∷◌, Result, Ok, Err, length, map, get_or, refl, sym, ap, subst, inl, inr, arith}
 use Rattle.std.specs.List.{AllByRecursion, Contains, flat_map}
 use Rattle.std.proofs.lemmas.List.{get_or_default}
 use Rattle.std.proofs.lemmas.List.Elements.{Contains-get_or}
-use Rattle.osm_keys.specs.Manifests.{HaveWidth, manifest}
+use Rattle.osm_keys.specs.Manifests.{manifest}
 use Rattle.osm_keys.specs.Publications.{IsNodeIn, IsPublication, Publication, manifest_of, root_of, shape_in, top_in, tree_in}
 use Rattle.osm_keys.specs.declared.edition.Edition.{Edition}
 use Rattle.osm_keys.proofs.shared.Members.{from_all, from_map, in_all, in_map}
@@ -12,8 +12,7 @@ use Rattle.osm_keys.proofs.shared.OnePublication.{lists_have_trees}
 use Rattle.tree_node.specs.Digests.{digest}
 use Rattle.tree_node.specs.NodeRefs.{number_of}
 use Rattle.tree_node.specs.Nodes.{Inner, IsNode, IsTree, Leaf, Link, Node, Spells, level_of, spelling, tree_of}
-use Rattle.tree_node.specs.Shelves.{HasNone, IsClashFree}
-use Rattle.tree_node.specs.Trees.{HasTree, IsNodeOf, Shape, leaves, level_at, level_over, levels, link_to, links_in, no_node, node_in, top_of}
+use Rattle.tree_node.specs.Trees.{IsNodeOf, Shape, leaves, level_at, link_to, links_in, no_node, node_in, top_of}
 use Rattle.tree_node.specs.Nodes.{Binding}
 use Rattle.tree_node.specs.declared.tree.Tree.{Tree}
 use Rattle.tree_node.specs.declared.tree.Tree.TheVariants.{Backs, Cells, Objects, Tags}
@@ -21,8 +20,7 @@ use Rattle.tree_node.proofs.shared.NodeLaws.{node_again}
 use Rattle.tree_node.proofs.shared.TreeLaws.{has_at, last_has_one, nodes_at, over_joined, pair_at, whole}
 use Rattle.tree_node.proofs.shared.TreeLemmas.{tree_is, tree_levels}
 use Rattle.tree_node.proofs.shared.TreeParts.{kind_at}
-use Rattle.node_pack.specs.Reached.{HasRole, IsAsWanted, IsUnder, AtRoot, Referred, Refers}
-use Rattle.node_pack.specs.declared.role.Role.{Role}
+use Rattle.node_pack.specs.Reached.{IsAsWanted, IsUnder, AtRoot, Referred, Refers}
 use Rattle.node_pack.specs.declared.role.Role.TheVariants as roles
 use Rattle.node_pack.specs.declared.role.Wanted.{Wanted}
 use Rattle.node_pack.specs.declared.role.Wanted.TheVariants.{Below, Root, Top}

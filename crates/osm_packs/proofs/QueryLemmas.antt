@@ -1,5 +1,5 @@
 -- What an answer from a pack is to the command, and why there is none.
-use Rattle.std.proofs.Common.{◌≡◌, ◌≢◌, ◌⊎◌, ◌∙◌, ℕ, List, [], ◌++◌, Bool, true, false, Option, Result, Ok, Err, length, inl, inr, refl, sym, ap, subst}
+use Rattle.std.proofs.Common.{◌≡◌, ◌≢◌, ◌⊎◌, ◌∙◌, ℕ, List, [], Bool, true, false, Option, Result, Ok, Err, length, inl, inr, refl, sym, ap, subst}
 use Rattle.std.specs.Prelude.{⊤, IfOk, not, take}
 use Rattle.std.specs.Str.{bytes_eq}
 use Rattle.tree_node.proofs.shared.MapLemmas.{eq_is}

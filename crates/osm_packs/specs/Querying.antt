@@ -11,7 +11,6 @@ use Rattle.ql_syntax.specs.Queries.{HasFault, Reads}
 use Rattle.ql_syntax.specs.Statements.{Statements}
 use Rattle.ql_meaning.specs.Meanings.{Means_by}
 use Rattle.ql_eval.specs.Asks.{IsNeeded}
-use Rattle.ql_eval.specs.declared.fault.EvalFault.{EvalFault}
 use Rattle.ql_eval.specs.declared.fault.EvalFault.TheVariants as evaluations
 use Rattle.osm_prove.specs.Budgets.{IsTooMuch, IsWithinBudget}
 use Rattle.osm_check.specs.Verdicts.{IsReadable}

@@ -1,7 +1,6 @@
 use Rattle.std.proofs.Common.{◌∙◌, List, ℕ, ap, subst, sym}
 use mathlib.Core.HLevel.{⊥_prop}
 use Rattle.std.proofs.Math.Logic.{∥∥₁_elim}
-use Rattle.std.specs.Io.KnownBytes.{Appends}
 use Rattle.tree_node.specs.Recorders.{RecorderHolds}
 use Rattle.node_pack.specs.Packs.{pack}
 use Rattle.node_pack.specs.Reached.{ArePacked, AreTooLong, IsReason}
