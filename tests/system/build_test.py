@@ -73,6 +73,27 @@ else:
     sys.exit(2)
 '''
 
+# In the form of the kit, which digests a crate more than once.
+KIT_RT = '''#!/usr/bin/env python3
+import os, subprocess, sys
+from pathlib import Path
+
+class rtlib:
+    class Crate:
+        def stamp(self):
+            with open(os.environ["RT_LOG"], "a") as file:
+                file.write(f"digests {Path.cwd().name}\\n")
+
+def main(words):
+    crate = rtlib.Crate()
+    crate.stamp()
+    crate.stamp()
+    return subprocess.call([Path(__file__).parent / "rt_alone", *words])
+
+if __name__ == "__main__":
+    sys.exit(main(sys.argv[1:]))
+'''
+
 CRATES = """# lowest first
 bottom: kit_crate
 left: bottom
@@ -102,7 +123,7 @@ class Site:
         (self.top / "docs/HACKING.md").write_text("| left | 2.0 | 0 |\n| right | 3.0 | 0 |\n", encoding="utf-8")
         (self.top / "crates.txt").write_text(CRATES, encoding="utf-8")
         (self.top / "HANDLES").write_text("Handles allowed: none.\n", encoding="utf-8")
-        for script in ("build", "osm_mirror"):
+        for script in ("build", "build_rt", "osm_mirror"):
             shutil.copy2(TOP / script, self.top)
 
     def begin(self, **variables):
@@ -162,6 +183,22 @@ def check_order(tally):
         tally.check("rooms are gone", here.is_clean())
         outcome = here.call()
         tally.check("the second call", (outcome, here.done()) == (RAN, []), outcome)
+
+
+def check_kit(tally):
+    """Where rt is the kit's Python program, each crate is digested once a run; what comes of the run is the same."""
+    with site() as here:
+        programs = here.top.parent / "bin"
+        (programs / "rt").rename(programs / "rt_alone")
+        (programs / "rt").write_text(KIT_RT, encoding="utf-8")
+        (programs / "rt").chmod(0o755)
+        (programs / "rtlib.py").touch()
+        outcome = here.call()
+        tally.check("a call with the kit", outcome == RAN, outcome)
+        done = here.done()
+        crates = ["bottom", "left", "osm_mirror", "right"]
+        tally.check("each crate is built", sorted(line for line in done if line.startswith("ends")) == [f"ends {it}" for it in crates], done)
+        tally.check("each is digested once", sorted(line for line in done if line.startswith("digests")) == [f"digests {it}" for it in crates], done)
 
 
 def check_wrong_order(tally):
@@ -268,6 +305,7 @@ def check_terminal(tally):
 def main():
     tally = Tally()
     check_order(tally)
+    check_kit(tally)
     check_wrong_order(tally)
     check_edit(tally)
     check_failure(tally)
