@@ -14,7 +14,6 @@ mod entries;
 mod fault;
 mod fetched;
 mod fields;
-mod given;
 mod item;
 mod laws;
 mod limits;
@@ -27,6 +26,7 @@ mod shelf;
 mod spelling;
 mod stock;
 mod tree;
+mod used_node;
 mod write;
 
 pub use bag::Bag;
