@@ -21,12 +21,12 @@ mod new_node;
 mod node;
 mod order;
 mod part;
+mod recorded_node;
 mod recorder;
 mod shelf;
 mod spelling;
 mod stock;
 mod tree;
-mod used_node;
 mod write;
 
 pub use bag::Bag;

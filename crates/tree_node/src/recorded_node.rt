@@ -14,32 +14,35 @@ use crate::node::NodeRef;
 /// A node that was used: its bytes, and the node of a tree that they spell, where they were read as one.
 /// So a node that walks meet again and again is read once.
 #[derive(Drop)]
-pub(crate) struct UsedNode<'a> {
+pub(crate) struct RecordedNode<'a> {
     pub(crate) bytes: &'a [u8],
     node: Option<NodeRef<'a>>,
     ghost own: { ForSome node (λ found. AreBytes bytes.now × (node_at bytes.now ≡ Ok (node_read found))) },
 }
 
-impl<'a> UsedNode<'a> {
+impl<'a> RecordedNode<'a> {
     /// Bytes that weren't read as a node.
-    pub(crate) fn unread(bytes: &'a [u8]) -> UsedNode<'a>
+    pub(crate) fn unread(bytes: &'a [u8]) -> RecordedNode<'a>
         ensures { result.bytes ≡ bytes.entry }
     {
-        UsedNode { bytes, node: None }
+        RecordedNode { bytes, node: None }
     }
 
     /// Bytes with the node that was read of them. Where they are no node, they are as unread.
-    pub(crate) fn with_read(bytes: &'a [u8], read: &Result<NodeRef<'a>, NodeFault>) -> UsedNode<'a>
+    pub(crate) fn with_read(
+        bytes: &'a [u8],
+        read: &Result<NodeRef<'a>, NodeFault>,
+    ) -> RecordedNode<'a>
         requires { ReadsAs bytes.now read.now }
         ensures { result.bytes ≡ bytes.entry }
     {
         if let Ok(node) = read {
-            return UsedNode {
+            return RecordedNode {
                 bytes,
                 node: Some(node.again()),
             };
         }
-        UsedNode::unread(bytes)
+        RecordedNode::unread(bytes)
     }
 
     /// The bytes with the node that they spell, where they were read as one.

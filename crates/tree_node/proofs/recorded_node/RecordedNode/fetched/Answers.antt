@@ -2,7 +2,7 @@ use Rattle.std.proofs.Common.{Ok, refl, sym, subst}
 use Rattle.tree_node.specs.Fetches.{ReadsAs}
 use Rattle.tree_node.specs.declared.node.NodeRef.{NodeRef}
 use Rattle.tree_node.proofs.FetchLemmas.{reads_as}
-use Rattle.tree_node.proofs.used_node.UsedNode.fetched.Goals as goal
+use Rattle.tree_node.proofs.recorded_node.RecordedNode.fetched.Goals as goal
 
 pub returns-in-Some : goal.returns-in-Some
 returns-in-Some c =

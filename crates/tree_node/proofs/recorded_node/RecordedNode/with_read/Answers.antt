@@ -4,7 +4,7 @@ use Rattle.tree_node.specs.Nodes.{Spells}
 use Rattle.tree_node.specs.declared.fault.NodeFault.{NodeFault}
 use Rattle.tree_node.specs.declared.node.NodeRef.{NodeRef}
 use Rattle.tree_node.proofs.shared.NodeLaws.{node_again}
-use Rattle.tree_node.proofs.used_node.UsedNode.with_read.Goals as goal
+use Rattle.tree_node.proofs.recorded_node.RecordedNode.with_read.Goals as goal
 
 -- an option has one value
 same_node : (a b : NodeRef) → Some a ≡ Some b → a ≡ b
