@@ -32,24 +32,24 @@ use Rattle.ql_eval.specs.internal.Links.{AreThere, IsObjectAsk, IsThereAs}
 use Rattle.ql_eval.proofs.EachLemmas.{needed_as}
 use Rattle.ql_eval.proofs.EntryLemmas.{set_as}
 
--- how the base of a query statement is answered
-abbrev pub FoundWell : Publication → Env → Pick → Option Filter → ShelfUse → Result (List Ref) EvalFault → Type 0
-FoundWell p env pick base shelf result =
-    Outcome cause_of_evaluation (λ refs. IsSetOf refs (IsRefOf p.objects (IsSelected p.objects env pick (option_to_list base)))) (NeededBy p (AskedByBase p.objects env (kind_picked pick) base)) shelf result
+-- how the base of a query statement is answered, with what is known then
+abbrev pub FoundWell : Publication → Env → Pick → Option Filter → Type 0 → ShelfUse → Result (List Ref) EvalFault → Type 0
+FoundWell p env pick base Known shelf result =
+    Outcome cause_of_evaluation (λ refs. IsSetOf refs (IsRefOf p.objects (IsSelected p.objects env pick (option_to_list base))) × Known) (NeededBy p (AskedByBase p.objects env (kind_picked pick) base)) shelf result
 
 -- how a filter is answered that is the base, and how a scan is
-abbrev pub KeptWell : Publication → Env → Option Kind → Filter → ShelfUse → Result (List Ref) EvalFault → Type 0
-KeptWell p env kind filter shelf result =
-    Outcome cause_of_evaluation (λ refs. IsSetOf refs (IsKeptOf p.objects env kind filter)) (NeededBy p (AskedByBase p.objects env kind (Some filter))) shelf result
+abbrev pub KeptWell : Publication → Env → Option Kind → Filter → Type 0 → ShelfUse → Result (List Ref) EvalFault → Type 0
+KeptWell p env kind filter Known shelf result =
+    Outcome cause_of_evaluation (λ refs. IsSetOf refs (IsKeptOf p.objects env kind filter) × Known) (NeededBy p (AskedByBase p.objects env kind (Some filter))) shelf result
 
-abbrev pub KindsWell : Publication → List Kind → ShelfUse → Result (List Ref) EvalFault → Type 0
-KindsWell p kinds shelf result =
-    Outcome cause_of_evaluation (λ refs. IsSetOf refs (From kinds (IsOfThisKind p.objects))) (NeededBy p (From kinds IsKindAsk)) shelf result
+abbrev pub KindsWell : Publication → List Kind → Type 0 → ShelfUse → Result (List Ref) EvalFault → Type 0
+KindsWell p kinds Known shelf result =
+    Outcome cause_of_evaluation (λ refs. IsSetOf refs (From kinds (IsOfThisKind p.objects)) × Known) (NeededBy p (From kinds IsKindAsk)) shelf result
 
-pub kept_as : (p : Publication) (env : Env) (shelf : ShelfUse) (result : Result (List Ref) EvalFault) {kind picked : Option Kind} {filter other : Filter} → kind ≡ picked → filter ≡ other
-    → KeptWell p env kind other shelf result → KeptWell p env picked filter shelf result
-kept_as p env shelf result {picked = picked} {other = other} same is so =
-    subst (λ (f : Filter). KeptWell p env picked f shelf result) (sym is) (subst (λ (k : Option Kind). KeptWell p env k other shelf result) same so)
+pub kept_as : (p : Publication) (env : Env) (Known : Type 0) (shelf : ShelfUse) (result : Result (List Ref) EvalFault) {kind picked : Option Kind} {filter other : Filter} → kind ≡ picked → filter ≡ other
+    → KeptWell p env kind other Known shelf result → KeptWell p env picked filter Known shelf result
+kept_as p env Known shelf result {picked = picked} {other = other} same is so =
+    subst (λ (f : Filter). KeptWell p env picked f Known shelf result) (sym is) (subst (λ (k : Option Kind). KeptWell p env k other Known shelf result) same so)
 
 -- ---- kinds
 

@@ -26,15 +26,15 @@ use Rattle.ql_eval.specs.internal.Links.{AreThere, IsBelowAsk, IsListedIn}
 use Rattle.ql_eval.proofs.EachLemmas.{needed_as}
 use Rattle.ql_eval.proofs.EntryLemmas.{set_as}
 
--- how steps from some references end
-abbrev pub LedWell : Publication → Direction → List Ref → ShelfUse → Result (List Ref) EvalFault → Type 0
-LedWell p direction names shelf result =
-    Outcome cause_of_evaluation (λ refs. IsSetOf refs (From names (Leads direction p.objects))) (NeededBy p (From names (LeadsAsk direction p.objects))) shelf result
+-- how steps from some references end, with what is known then
+abbrev pub LedWell : Publication → Direction → List Ref → Type 0 → ShelfUse → Result (List Ref) EvalFault → Type 0
+LedWell p direction names Known shelf result =
+    Outcome cause_of_evaluation (λ refs. IsSetOf refs (From names (Leads direction p.objects)) × Known) (NeededBy p (From names (LeadsAsk direction p.objects))) shelf result
 
 -- how far chains have been gone along
-abbrev pub ChainedWell : Publication → Direction → List Ref → List Ref → List Ref → ShelfUse → Type 0
-ChainedWell p direction from followed refs shelf =
-    Outcome cause_of_evaluation (λ (_ : Unit {0}). AreChained direction p.objects from followed refs) (NeededBy p (IsChainAsk direction p.objects from followed)) shelf (Ok tt)
+abbrev pub ChainedWell : Publication → Direction → List Ref → List Ref → List Ref → Type 0 → ShelfUse → Type 0
+ChainedWell p direction from followed refs Known shelf =
+    Outcome cause_of_evaluation (λ (_ : Unit {0}). AreChained direction p.objects from followed refs × Known) (NeededBy p (IsChainAsk direction p.objects from followed)) shelf (Ok tt)
 
 -- ---- steps down
 

@@ -25,10 +25,10 @@ use Rattle.ql_eval.specs.internal.Metering.{IsBounded}
 use Rattle.ql_eval.proofs.EachLemmas.{needed_as}
 use Rattle.ql_eval.proofs.EntryLemmas.{set_as}
 
--- how a recursion ends
-abbrev pub RecursedWell : Publication → Recursion → List Ref → ShelfUse → Result (List Ref) EvalFault → Type 0
-RecursedWell p how set shelf result =
-    Outcome cause_of_evaluation (λ refs. IsSetOf refs (IsRefOf p.objects (IsReached p.objects how set))) (NeededBy p (AskedByRecursion p.objects how set)) shelf result
+-- how a recursion ends, with what is known then
+abbrev pub RecursedWell : Publication → Recursion → List Ref → Type 0 → ShelfUse → Result (List Ref) EvalFault → Type 0
+RecursedWell p how set Known shelf result =
+    Outcome cause_of_evaluation (λ refs. IsSetOf refs (IsRefOf p.objects (IsReached p.objects how set)) × Known) (NeededBy p (AskedByRecursion p.objects how set)) shelf result
 
 -- ---- chains and their ends
 

@@ -7,6 +7,7 @@ pub mod KnownLemmas
 pub mod NameLemmas
 pub mod ExitLemmas
 pub mod StepLemmas
+pub mod TruthLemmas
 pub mod EachLemmas
 pub mod LoopLemmas
 pub mod GivenLemmas

@@ -9,7 +9,7 @@ use Rattle.osm_model.specs.declared.kind.Kind.{Kind}
 use Rattle.osm_model.specs.declared.kind.Kind.TheVariants as kinds
 use Rattle.osm_model.specs.declared.reference.Ref.{Ref}
 use Rattle.tree_node.specs.Outcomes.{Outcome, ShelfUse}
-use Rattle.tree_node.proofs.shared.OutcomeLaws.{Nodes, outcome_same, outcome_starts, uses}
+use Rattle.tree_node.proofs.shared.OutcomeLaws.{Nodes, outcome_starts, uses}
 use Rattle.osm_keys.specs.Publications.{Publication}
 use Rattle.osm_keys.proofs.shared.Members.{from_map, in_map}
 use Rattle.ql_syntax.specs.Filters as tree
@@ -34,6 +34,7 @@ use Rattle.ref_sets.proofs.shared.Kinds.{is_one_kind}
 use Rattle.ql_eval.specs.internal.Narrowing.{AskedByPathDown, HasId, IsNamedBy, IsNamedByAll, IsNamedOnPath}
 use Rattle.ql_eval.proofs.AllLemmas.{all_both, all_split}
 use Rattle.ql_eval.proofs.PassingLemmas.{filters_more}
+use Rattle.ql_eval.proofs.TruthLemmas.{truly_same}
 
 -- ---- ids
 
@@ -97,22 +98,22 @@ module _ (from some : List Ref) (kind : Kind) (are : (r : Ref) → Contains some
         (λ (has, (o, there, of, lists)). (has, (set.members r).1 (reference o, (some_are (reference o)).1 of, (o, there, refl, lists)))),
       )) kept
 
--- what is left after a path, and what it asks
+-- what is left after a path, with what is known then, and what it asks
 abbrev pub IsLeftOf : List Ref → (Ref → Type 0) → List Ref → Type 0
 IsLeftOf refs Is left = IsSetOf left (λ r. Contains refs r × Is r)
 
-abbrev pub LeavesOnPath : Publication → List Ref → List Ref → ShelfUse → Result (List Ref) EvalFault → Path → Type 0
-LeavesOnPath p from refs shelf result path = Outcome cause_of_evaluation (IsLeftOf refs (IsNamedOnPath p.objects from path)) (NeededBy p (AskedByPathDown from path)) shelf result
+abbrev pub LeavesOnPath : Publication → List Ref → List Ref → Type 0 → ShelfUse → Result (List Ref) EvalFault → Path → Type 0
+LeavesOnPath p from refs Known shelf result path = Outcome cause_of_evaluation (λ left. IsLeftOf refs (IsNamedOnPath p.objects from path) left × Known) (NeededBy p (AskedByPathDown from path)) shelf result
 
-abbrev pub LeavesListed : Publication → List Ref → List Ref → ShelfUse → Result (List Ref) EvalFault → Kind → Type 0
-LeavesListed p from refs shelf result kind = Outcome cause_of_evaluation (IsLeftOf refs (IsListedBy p.objects (IsOfKindIn from kind))) (NeededBy p (AskedFor (IsOfKindIn from kind) object_ask)) shelf result
+abbrev pub LeavesListed : Publication → List Ref → List Ref → Type 0 → ShelfUse → Result (List Ref) EvalFault → Kind → Type 0
+LeavesListed p from refs Known shelf result kind = Outcome cause_of_evaluation (λ left. IsLeftOf refs (IsListedBy p.objects (IsOfKindIn from kind)) left × Known) (NeededBy p (AskedFor (IsOfKindIn from kind) object_ask)) shelf result
 
-module _ (p : Publication) (from refs names : List Ref) (same : names ≡ refs) (shelf : ShelfUse) (result : Result (List Ref) EvalFault) (path : Path) where
-  pub on_ways : path ≡ paths.W → LeavesListed p from names shelf result kinds.Way → LeavesOnPath p from refs shelf result path
-  on_ways is so = subst (λ (q : Path). LeavesOnPath p from refs shelf result q) (sym is) (subst (λ (l : List Ref). LeavesListed p from l shelf result kinds.Way) same so)
+module _ (p : Publication) (from refs names : List Ref) (same : names ≡ refs) (Known : Type 0) (shelf : ShelfUse) (result : Result (List Ref) EvalFault) (path : Path) where
+  pub on_ways : path ≡ paths.W → LeavesListed p from names Known shelf result kinds.Way → LeavesOnPath p from refs Known shelf result path
+  on_ways is so = subst (λ (q : Path). LeavesOnPath p from refs Known shelf result q) (sym is) (subst (λ (l : List Ref). LeavesListed p from l Known shelf result kinds.Way) same so)
 
-  pub on_relations : path ≡ paths.R → LeavesListed p from names shelf result kinds.Rel → LeavesOnPath p from refs shelf result path
-  on_relations is so = subst (λ (q : Path). LeavesOnPath p from refs shelf result q) (sym is) (subst (λ (l : List Ref). LeavesListed p from l shelf result kinds.Rel) same so)
+  pub on_relations : path ≡ paths.R → LeavesListed p from names Known shelf result kinds.Rel → LeavesOnPath p from refs Known shelf result path
+  on_relations is so = subst (λ (q : Path). LeavesOnPath p from refs Known shelf result q) (sym is) (subst (λ (l : List Ref). LeavesListed p from l Known shelf result kinds.Rel) same so)
 
 -- a path asks what its filter does
 rest_asked : (env : Env) (path : Path) (name : List ℕ) (ask : Ask) → AskedByPathDown (env name) path ask → AskedByRest env (tree.Via path name) ask
@@ -131,30 +132,30 @@ path_asked env paths.Br name ask asked = asked
 
 -- ---- one filter
 
-abbrev pub LeavesNamed : Publication → Env → List Ref → ShelfUse → Result (List Ref) EvalFault → tree.Filter → Type 0
-LeavesNamed p env refs shelf result one = Outcome cause_of_evaluation (IsLeftOf refs (λ r. IsNamedBy p.objects env r one)) (NeededBy p (AskedByRest env one)) shelf result
+abbrev pub LeavesNamed : Publication → Env → List Ref → Type 0 → ShelfUse → Result (List Ref) EvalFault → tree.Filter → Type 0
+LeavesNamed p env refs Known shelf result one = Outcome cause_of_evaluation (λ left. IsLeftOf refs (λ r. IsNamedBy p.objects env r one) left × Known) (NeededBy p (AskedByRest env one)) shelf result
 
-pub named_via : (p : Publication) (env : Env) (refs : List Ref) (held old new : Nodes) (result : Result (List Ref) EvalFault) (one : Filter) (path : Path) (name : List ℕ) (from : List Ref) → one ≡ filters.Via path name → from ≡ env name
-    → LeavesOnPath p from refs (uses held old new) result path → LeavesNamed p env refs (uses held old new) result (filter_of one)
-named_via p env refs held old new result one path name from is same so =
-    subst (λ (f : Filter). LeavesNamed p env refs (uses held old new) result (filter_of f)) (sym is)
-    (outcome_same (needed_as (rest_asked env path name)) (λ value left. needed_as (path_asked env path name)) (λ value left. left)
-    (subst (λ (l : List Ref). LeavesOnPath p l refs (uses held old new) result path) same so))
+pub named_via : (p : Publication) (env : Env) (refs : List Ref) (Known : Type 0) (held old new : Nodes) (result : Result (List Ref) EvalFault) (one : Filter) (path : Path) (name : List ℕ) (from : List Ref) → one ≡ filters.Via path name → from ≡ env name
+    → LeavesOnPath p from refs Known (uses held old new) result path → LeavesNamed p env refs Known (uses held old new) result (filter_of one)
+named_via p env refs Known held old new result one path name from is same so =
+    subst (λ (f : Filter). LeavesNamed p env refs Known (uses held old new) result (filter_of f)) (sym is)
+    (truly_same (needed_as (rest_asked env path name)) (λ value left. needed_as (path_asked env path name)) (λ value left. left)
+    (subst (λ (l : List Ref). LeavesOnPath p l refs Known (uses held old new) result path) same so))
 
 -- nothing is asked
 pub nothing_asked : {A : Type 0} {Is : A → Type 0} {p : Publication} {Asks : Ask → Type 0} {held old : Nodes} {value : A} → ((ask : Ask) → Asks ask → ⊥) → Is value → Outcome cause_of_evaluation Is (NeededBy p Asks) (uses held old old) (Ok value)
 nothing_asked never is = outcome_starts is (λ x needs. never needs.ask needs.asked)
 
-module _ (p : Publication) (env : Env) (refs names : List Ref) (same : names ≡ refs) (held old : Nodes) (left : List Ref) (one : Filter) where
-  pub named_in_set : (name : List ℕ) (set : List Ref) → one ≡ filters.InSet name → set ≡ env name → IsSetOf left (λ r. Contains names r × Contains set r) → LeavesNamed p env refs (uses held old old) (Ok left) (filter_of one)
+module _ (p : Publication) (env : Env) (refs names : List Ref) (same : names ≡ refs) {Known : Type 0} (known : Known) (held old : Nodes) (left : List Ref) (one : Filter) where
+  pub named_in_set : (name : List ℕ) (set : List Ref) → one ≡ filters.InSet name → set ≡ env name → IsSetOf left (λ r. Contains names r × Contains set r) → LeavesNamed p env refs Known (uses held old old) (Ok left) (filter_of one)
   named_in_set name set is set_is so =
-      subst (λ (f : Filter). LeavesNamed p env refs (uses held old old) (Ok left) (filter_of f)) (sym is)
-      (nothing_asked (λ ask asked. asked) (subst (λ (l : List Ref). IsSetOf left (λ r. Contains l r × Contains (env name) r)) same (subst (λ (s : List Ref). IsSetOf left (λ r. Contains names r × Contains s r)) set_is so)))
+      subst (λ (f : Filter). LeavesNamed p env refs Known (uses held old old) (Ok left) (filter_of f)) (sym is)
+      (nothing_asked (λ ask asked. asked) (subst (λ (l : List Ref). IsSetOf left (λ r. Contains l r × Contains (env name) r)) same (subst (λ (s : List Ref). IsSetOf left (λ r. Contains names r × Contains s r)) set_is so), known))
 
-  pub named_by_ids : (ids : _) (listed : List ℤ) → one ≡ filters.Ids ids → listed ≡ ids.items → IsSetOf left (λ r. Contains names r × Contains listed r.id) → LeavesNamed p env refs (uses held old old) (Ok left) (filter_of one)
+  pub named_by_ids : (ids : _) (listed : List ℤ) → one ≡ filters.Ids ids → listed ≡ ids.items → IsSetOf left (λ r. Contains names r × Contains listed r.id) → LeavesNamed p env refs Known (uses held old old) (Ok left) (filter_of one)
   named_by_ids ids listed is ids_are so =
-      subst (λ (f : Filter). LeavesNamed p env refs (uses held old old) (Ok left) (filter_of f)) (sym is)
-      (nothing_asked (λ ask asked. asked) (subst (λ (l : List Ref). IsSetOf left (λ r. Contains l r × Contains ids.items r.id)) same (subst (λ (is : List ℤ). IsSetOf left (λ r. Contains names r × Contains is r.id)) ids_are so)))
+      subst (λ (f : Filter). LeavesNamed p env refs Known (uses held old old) (Ok left) (filter_of f)) (sym is)
+      (nothing_asked (λ ask asked. asked) (subst (λ (l : List Ref). IsSetOf left (λ r. Contains l r × Contains ids.items r.id)) same (subst (λ (is : List ℤ). IsSetOf left (λ r. Contains names r × Contains is r.id)) ids_are so), known))
 
 -- ---- filters, one after the other
 

@@ -32,10 +32,10 @@ module _ (objects : List Element) (env : Env) (filters : List tree.Filter) (name
       adds_nothing (λ r (same, (other, there_too, named_too, passes)).
       never (subst (λ (e : Element). PassesAll env filters e) (one_object objects other o set there_too there (named_too ∙ sym named)) passes))
 
--- how candidates are filtered whose objects are looked at
-abbrev pub PassedWell : Publication → Env → List tree.Filter → List Ref → ShelfUse → Result (List Ref) EvalFault → Type 0
-PassedWell p env rest candidates shelf result =
-    Outcome cause_of_evaluation (λ refs. IsSetOf refs (From candidates (IsPassingAs p.objects env rest))) (NeededBy p (From candidates IsObjectAsk)) shelf result
+-- how candidates are filtered whose objects are looked at, with what is known then
+abbrev pub PassedWell : Publication → Env → List tree.Filter → List Ref → Type 0 → ShelfUse → Result (List Ref) EvalFault → Type 0
+PassedWell p env rest candidates Known shelf result =
+    Outcome cause_of_evaluation (λ refs. IsSetOf refs (From candidates (IsPassingAs p.objects env rest)) × Known) (NeededBy p (From candidates IsObjectAsk)) shelf result
 
 -- filters of a list, one more
 pub filters_more : (filters : List Filter) (k : ℕ) (f : Filter) → k < length filters → f ≡ get_or filters k f → filters_of (take (k + 1) filters) ≡ filters_of (take k filters) ++ filter_of f ∷ []

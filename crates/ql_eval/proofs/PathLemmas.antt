@@ -26,14 +26,14 @@ use Rattle.ql_eval.proofs.EntryLemmas.{set_as}
 use Rattle.ref_sets.proofs.shared.Kinds.{is_one_kind}
 use Rattle.ql_eval.proofs.RecursionLemmas.{all_kinds, below_of, of_below, one_of_set}
 
--- how what is below some references is found, and how a path is gone along
-abbrev pub BelowWell : Publication → List Ref → Kind → Kind → ShelfUse → Result (List Ref) EvalFault → Type 0
-BelowWell p names first last shelf result =
-    Outcome cause_of_evaluation (λ refs. IsSetOf refs (IsBelowThere p.objects names first last)) (NeededBy p (IsBelowAsk p.objects names first last)) shelf result
+-- how what is below some references is found, and how a path is gone along, with what is known then
+abbrev pub BelowWell : Publication → List Ref → Kind → Kind → Type 0 → ShelfUse → Result (List Ref) EvalFault → Type 0
+BelowWell p names first last Known shelf result =
+    Outcome cause_of_evaluation (λ refs. IsSetOf refs (IsBelowThere p.objects names first last) × Known) (NeededBy p (IsBelowAsk p.objects names first last)) shelf result
 
-abbrev pub PathWell : Publication → Path → List Ref → Option Kind → ShelfUse → Result (List Ref) EvalFault → Type 0
-PathWell p path set kind shelf result =
-    Outcome cause_of_evaluation (λ refs. IsSetOf refs (IsAt p.objects set kind path)) (NeededBy p (AskedByPath p.objects set kind path)) shelf result
+abbrev pub PathWell : Publication → Path → List Ref → Option Kind → Type 0 → ShelfUse → Result (List Ref) EvalFault → Type 0
+PathWell p path set kind Known shelf result =
+    Outcome cause_of_evaluation (λ refs. IsSetOf refs (IsAt p.objects set kind path) × Known) (NeededBy p (AskedByPath p.objects set kind path)) shelf result
 
 -- the kinds from the first to the last are the one, or all
 pub kind_between : (kind : Option Kind) (r : Ref) → IsBetween (first_of kind) (last_of kind) r ↔ IsKindOf kind r

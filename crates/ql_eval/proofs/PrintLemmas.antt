@@ -23,7 +23,7 @@ use Rattle.osm_model.specs.declared.out_mode.OutMode.{OutMode}
 use Rattle.osm_model.specs.declared.out_mode.OutMode.TheVariants as modes
 use Rattle.tree_node.specs.Outcomes.{Outcome, ShelfUse}
 use Rattle.tree_node.specs.Shelves.{SameNodes}
-use Rattle.tree_node.proofs.shared.OutcomeLaws.{Nodes, outcome_as, outcome_starts_same, outcome_then, outcome_then_stops, uses}
+use Rattle.tree_node.proofs.shared.OutcomeLaws.{Nodes, outcome_starts_same, uses}
 use Rattle.osm_keys.proofs.shared.Members.{first_or_in_rest, from_map, here, in_map, in_rest, none}
 use Rattle.osm_keys.proofs.shared.OneObject.{object_there, same_reference}
 use Rattle.osm_keys.specs.Publications.{Publication}
@@ -40,6 +40,7 @@ use Rattle.ql_eval.specs.internal.Links.{AreThere, IsObjectAsk}
 use Rattle.ql_eval.proofs.EachLemmas.{all_front, front_all, front_needs, needs_split, next_all, next_needs, none_needed}
 use Rattle.ql_eval.specs.internal.Printing.{line_at, line_of, lines_at, name_lines}
 use Rattle.ql_eval.proofs.WritingLemmas.{written_none, written_then}
+use Rattle.ql_eval.proofs.TruthLemmas.{truly_as, truly_then, truly_then_stops}
 
 -- ---- the objects of a set
 
@@ -195,31 +196,31 @@ module _ {B : Type 0} (xs : List B) (line : B → List ℕ) where
 -- ---- a loop that asks for each of several things, and writes a line of each
 
 module _ {B : Type 0} (p : Publication) (xs : List B) (Asks : B → Ask → Type 0) (line : B → List ℕ) where
-  -- so many were asked for and written
-  abbrev pub HasPrinted : ℕ → Nodes → Nodes → ShelfUse → Type 0
-  HasPrinted k was is shelf = Outcome cause_of_evaluation (λ (_ : Unit {0}). HasWritten was is (flat_map line (take k xs))) (NeededBy p (From (take k xs) Asks)) shelf (Ok tt)
+  -- so many were asked for and written, with what is known then
+  abbrev pub HasPrinted : Type 0 → ℕ → Nodes → Nodes → ShelfUse → Type 0
+  HasPrinted Known k was is shelf = Outcome cause_of_evaluation (λ (_ : Unit {0}). HasWritten was is (flat_map line (take k xs)) × Known) (NeededBy p (From (take k xs) Asks)) shelf (Ok tt)
 
   -- one of them was
-  abbrev pub HasPut : {V : Type 0} → B → Nodes → Nodes → ShelfUse → Result V EvalFault → Type 0
-  HasPut b was is shelf result = Outcome cause_of_evaluation (λ _. HasWritten was is (line b)) (NeededBy p (Asks b)) shelf result
+  abbrev pub HasPut : {V : Type 0} → Type 0 → B → Nodes → Nodes → ShelfUse → Result V EvalFault → Type 0
+  HasPut Known b was is shelf result = Outcome cause_of_evaluation (λ _. HasWritten was is (line b) × Known) (NeededBy p (Asks b)) shelf result
 
-  pub printed_same : {held used later was : Nodes} → SameNodes used later → HasPrinted 0 was was (uses held used later)
-  printed_same same = outcome_starts_same written_none (none_needed Asks p xs) same
+  pub printed_same : {Known : Type 0} {held used later was : Nodes} → SameNodes used later → Known → HasPrinted Known 0 was was (uses held used later)
+  printed_same same known = outcome_starts_same (written_none, known) (none_needed Asks p xs) same
 
   module _ (k : ℕ) (b : B) (lt : k < length xs) (is_next : b ≡ get_or xs k b) where
-    pub printed_next : {V : Type 0} {before held old mid new was mark is : Nodes} {value : V} → ((x : List ℕ) → mid x → new x)
-        → HasPrinted k was mark (uses before old mid) → HasPut b mark is (uses held mid new) (Ok value) → HasPrinted (k + 1) was is (uses held old new)
+    pub printed_next : {V Known Later : Type 0} {before held old mid new was mark is : Nodes} {value : V} → ((x : List ℕ) → mid x → new x)
+        → HasPrinted Known k was mark (uses before old mid) → (Known → HasPut Later b mark is (uses held mid new) (Ok value)) → HasPrinted Later (k + 1) was is (uses held old new)
     printed_next grows so step =
-        outcome_then grows (front_needs Asks p xs k b lt is_next) (λ done. next_needs Asks p xs k b lt is_next) (λ done next. needs_split Asks p xs k b lt is_next)
+        truly_then grows (front_needs Asks p xs k b lt is_next) (λ done. next_needs Asks p xs k b lt is_next) (λ done next. needs_split Asks p xs k b lt is_next)
         (λ done next. written_more xs line k b lt is_next done next) so (λ done. step)
 
-    pub printed_stops : {C V : Type 0} {All : C → Type 0} {before held old mid new was mark is : Nodes} {result : Result C EvalFault} (fault : EvalFault) → IsErrAnd result (λ f. f ≡ fault)
-        → ((x : List ℕ) → mid x → new x) → HasPrinted k was mark (uses before old mid) → HasPut {V = V} b mark is (uses held mid new) (Err fault)
+    pub printed_stops : {C V Known Later : Type 0} {All : C → Type 0} {before held old mid new was mark is : Nodes} {result : Result C EvalFault} (fault : EvalFault) → IsErrAnd result (λ f. f ≡ fault)
+        → ((x : List ℕ) → mid x → new x) → HasPrinted Known k was mark (uses before old mid) → (Known → HasPut {V = V} Later b mark is (uses held mid new) (Err fault))
         → Outcome cause_of_evaluation All (NeededBy p (From xs Asks)) (uses held old new) result
     printed_stops fault err grows so step =
-        outcome_then_stops fault err refl grows (front_all Asks p xs k) (λ has. next_all Asks p xs k b lt is_next) so (λ has. step)
+        truly_then_stops fault err refl grows (front_all Asks p xs k) (λ has. next_all Asks p xs k b lt is_next) so (λ has. step)
 
   -- all of them were
-  pub printed_all : {C : Type 0} {before held old new was is : Nodes} {value : C} (k : ℕ) → length xs ≤ k
-      → HasPrinted k was is (uses before old new) → Outcome cause_of_evaluation (λ _. HasWritten was is (flat_map line xs)) (NeededBy p (From xs Asks)) (uses held old new) (Ok value)
-  printed_all k past so = outcome_as (front_all Asks p xs k) (λ done. all_front Asks p xs k past) (λ done. written_all xs line k past done) so
+  pub printed_all : {C Known : Type 0} {before held old new was is : Nodes} {value : C} (k : ℕ) → length xs ≤ k
+      → HasPrinted Known k was is (uses before old new) → Outcome cause_of_evaluation (λ _. HasWritten was is (flat_map line xs) × Known) (NeededBy p (From xs Asks)) (uses held old new) (Ok value)
+  printed_all k past so = truly_as (front_all Asks p xs k) (λ done. all_front Asks p xs k past) (λ done. written_all xs line k past done) so

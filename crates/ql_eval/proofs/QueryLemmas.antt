@@ -72,19 +72,19 @@ pub one_top : (xs : List Stmt) (k : ℕ) (x : Stmt) → k < length xs → x ≡ 
 one_top xs k x lt is are = subst (λ (s : Stmt). IsTop (statement_of s)) (sym is) (top_at xs k x lt are)
 
 module _ (tell : Telling) (p : Publication) (xs : List Stmt) where
-  -- so many statements were answered, these are the named sets after them, and something else is so too
-  abbrev pub HasAnswered : ℕ → Env → Type 0 → Nodes → Nodes → ShelfUse → Type 0
-  HasAnswered k env So was is shelf =
-      Outcome cause_of_evaluation (λ (_ : Unit {0}). (text : List ℕ) × PrintsTo_by tell p.objects (statements_of (take k xs)) nothing_named env text × HasWritten was is text × So)
+  -- so many statements were answered, these are the named sets after them, and something else is so too, with what is known then
+  abbrev pub HasAnswered : ℕ → Env → Type 0 → Type 0 → Nodes → Nodes → ShelfUse → Type 0
+  HasAnswered k env So Known was is shelf =
+      Outcome cause_of_evaluation (λ (_ : Unit {0}). (text : List ℕ) × PrintsTo_by tell p.objects (statements_of (take k xs)) nothing_named env text × HasWritten was is text × So × Known)
       (NeededBy p (AskedByAll p (statements_of (take k xs)) nothing_named)) shelf (Ok tt)
 
   -- one of them was
-  abbrev pub IsAnswered : {V : Type 0} → Stmt → Env → Env → Type 0 → Nodes → Nodes → ShelfUse → Result V EvalFault → Type 0
-  IsAnswered x env later So was is shelf result =
-      Outcome cause_of_evaluation (λ _. After p.objects (statement_of x) env later × HasWritten was is (told_by tell p.objects (statement_of x) env) × So) (NeededBy p (AskedBy p (statement_of x) env)) shelf result
+  abbrev pub IsAnswered : {V : Type 0} → Stmt → Env → Env → Type 0 → Type 0 → Nodes → Nodes → ShelfUse → Result V EvalFault → Type 0
+  IsAnswered x env later So Known was is shelf result =
+      Outcome cause_of_evaluation (λ _. (After p.objects (statement_of x) env later × HasWritten was is (told_by tell p.objects (statement_of x) env) × So) × Known) (NeededBy p (AskedBy p (statement_of x) env)) shelf result
 
-  pub answered_none : {env : Env} {So : Type 0} {held used was : Nodes} → env ≡ nothing_named → So → HasAnswered 0 env So was was (uses held used used)
-  answered_none {env = env} {was = was} e so = outcome_starts ([], (e, refl), written_none, so) (λ x needs. needs.asked)
+  pub answered_none : {env : Env} {So Known : Type 0} {held used was : Nodes} → env ≡ nothing_named → So → Known → HasAnswered 0 env So Known was was (uses held used used)
+  answered_none {env = env} {was = was} e so known = outcome_starts ([], (e, refl), written_none, so, known) (λ x needs. needs.asked)
 
   module _ (k : ℕ) where
     front_all : (x : List ℕ) → NeededBy p (AskedByAll p (statements_of (take k xs)) nothing_named) x → NeededBy p (AskedByAll p (statements_of xs) nothing_named) x
@@ -118,23 +118,23 @@ module _ (tell : Telling) (p : Publication) (xs : List Stmt) where
         pub all_sets_there : AreAllThere p.objects env
         all_sets_there = prints_there tell p.objects (statements_of (take k xs)) nothing_named env text so (none_there p.objects)
 
-      pub answered_next : {V : Type 0} (env later : Env) {First Next : Type 0} {before held old mid new was mark is : Nodes} {value : V} → ((bytes : List ℕ) → mid bytes → new bytes)
-          → HasAnswered k env First was mark (uses before old mid) → (AreAllThere p.objects env → First → IsAnswered x env later Next mark is (uses held mid new) (Ok value)) → HasAnswered (k + 1) later Next was is (uses held old new)
+      pub answered_next : {V : Type 0} (env later : Env) {First Next Known Later : Type 0} {before held old mid new was mark is : Nodes} {value : V} → ((bytes : List ℕ) → mid bytes → new bytes)
+          → HasAnswered k env First Known was mark (uses before old mid) → (AreAllThere p.objects env → First → Known → IsAnswered x env later Next Later mark is (uses held mid new) (Ok value)) → HasAnswered (k + 1) later Next Later was is (uses held old new)
       answered_next env later grows so step =
           outcome_then grows front_needs (λ done. next_needs env done.0 done.1) (λ done next. needs_split env done.0 done.1)
-          (λ done next. (done.0 ++ told_by tell p.objects (statement_of x) env, prints_next_by tell p.objects xs k x lt is_next nothing_named env later done.0 _ done.1 next.0 refl, written_then done.2 next.1, next.2))
-          so (λ done. step (all_sets_there env done.0 done.1) done.3)
+          (λ done next. (done.0 ++ told_by tell p.objects (statement_of x) env, prints_next_by tell p.objects xs k x lt is_next nothing_named env later done.0 _ done.1 next.0.0 refl, written_then done.2 next.0.1, next.0.2, next.1))
+          so (λ done. step (all_sets_there env done.0 done.1) done.3 done.4)
 
-      pub answered_stops : {C V : Type 0} {All : C → Type 0} (env later : Env) {First Next : Type 0} {before held old mid new was mark is : Nodes} {result : Result C EvalFault} (fault : EvalFault) → IsErrAnd result (λ f. f ≡ fault)
-          → ((bytes : List ℕ) → mid bytes → new bytes) → HasAnswered k env First was mark (uses before old mid) → (AreAllThere p.objects env → First → IsAnswered {V = V} x env later Next mark is (uses held mid new) (Err fault))
+      pub answered_stops : {C V : Type 0} {All : C → Type 0} (env later : Env) {First Next Known Later : Type 0} {before held old mid new was mark is : Nodes} {result : Result C EvalFault} (fault : EvalFault) → IsErrAnd result (λ f. f ≡ fault)
+          → ((bytes : List ℕ) → mid bytes → new bytes) → HasAnswered k env First Known was mark (uses before old mid) → (AreAllThere p.objects env → First → Known → IsAnswered {V = V} x env later Next Later mark is (uses held mid new) (Err fault))
           → Outcome cause_of_evaluation All (NeededBy p (AskedByAll p (statements_of xs) nothing_named)) (uses held old new) result
       answered_stops env later fault err grows so step =
-          outcome_then_stops fault err refl grows front_all (λ done. next_all env done.0 done.1) so (λ done. step (all_sets_there env done.0 done.1) done.3)
+          outcome_then_stops fault err refl grows front_all (λ done. next_all env done.0 done.1) so (λ done. step (all_sets_there env done.0 done.1) done.3 done.4)
 
   -- all of them were
-  pub answered_all : {C : Type 0} {So : Type 0} {before held old new was is : Nodes} {value : C} (env : Env) (k : ℕ) → length xs ≤ k → HasAnswered k env So was is (uses before old new)
-      → Outcome cause_of_evaluation (λ _. (text : List ℕ) × Means_by tell p.objects (statements_of xs) text × HasWritten was is text) (NeededBy p (AskedByAll p (statements_of xs) nothing_named)) (uses held old new) (Ok value)
+  pub answered_all : {C : Type 0} {So Known : Type 0} {before held old new was is : Nodes} {value : C} (env : Env) (k : ℕ) → length xs ≤ k → HasAnswered k env So Known was is (uses before old new)
+      → Outcome cause_of_evaluation (λ _. ((text : List ℕ) × Means_by tell p.objects (statements_of xs) text × HasWritten was is text) × Known) (NeededBy p (AskedByAll p (statements_of xs) nothing_named)) (uses held old new) (Ok value)
   answered_all env k past so =
       let all : take k xs ≡ xs = take_all k xs past in
       outcome_as (front_all k) (λ done x needs. subst (λ (ss : List Stmt). NeededBy p (AskedByAll p (statements_of ss) nothing_named) x) (sym all) needs)
-      (λ done. (done.0, prints_by tell p.objects (statements_of xs) nothing_named env done.0 (subst (λ (ss : List Stmt). PrintsTo_by tell p.objects (statements_of ss) nothing_named env done.0) all done.1), done.2)) so
+      (λ done. ((done.0, prints_by tell p.objects (statements_of xs) nothing_named env done.0 (subst (λ (ss : List Stmt). PrintsTo_by tell p.objects (statements_of ss) nothing_named env done.0) all done.1), done.2), done.4)) so

@@ -29,10 +29,10 @@ decides_refs a b =
 
 module _ (p : Publication) (how : Recursion) (set : List Ref) where
   -- what a call gave that asked it
-  pub recalled_now : {held old new : Nodes} {refs : List Ref} (kept : List Ref) → kept ≡ refs → RecursedWell p how set (uses held old new) (Ok refs) → IsRecalled p new how set kept
+  pub recalled_now : {Known : Type 0} {held old new : Nodes} {refs : List Ref} (kept : List Ref) → kept ≡ refs → RecursedWell p how set Known (uses held old new) (Ok refs) → IsRecalled p new how set kept
   recalled_now {refs = refs} kept same so = elim so.ends [
     | inl clash ↦ inl clash
-    | inr one ↦ inr (subst (λ (l : List Ref). IsSetOf l (IsRefOf p.objects (IsReached p.objects how set))) (sym same) one.0, λ x needs. (one.1 x).1 (inr needs))
+    | inr one ↦ inr (subst (λ (l : List Ref). IsSetOf l (IsRefOf p.objects (IsReached p.objects how set))) (sym same) one.0.0, λ x needs. (one.1 x).1 (inr needs))
   ]
 
   pub recalled_more : (refs : List Ref) (used later : Nodes) → ((x : List ℕ) → used x → later x) → IsRecalled p used how set refs → IsRecalled p later how set refs

@@ -46,10 +46,10 @@ base_lawful pick before (Some base) after all filter e =
     let same : base ≡ filter = cc in
     subst (Allows pick) same (all_second (Allows pick) before (base ∷ []) (all_first (Allows pick) (before ++ base ∷ []) after all)).0
 
--- how left-over filters are tested, and how a plan is chosen
-abbrev pub TestedWell : Publication → Env → List Filter → List Ref → ShelfUse → Result (List Ref) EvalFault → Type 0
-TestedWell p env rest candidates shelf result =
-    Outcome cause_of_evaluation (λ refs. IsSetOf refs (λ r. Contains candidates r × IsKeptBy p.objects env rest r)) (NeededBy p (IsTestAsk env rest candidates)) shelf result
+-- how left-over filters are tested, with what is known then, and how a plan is chosen
+abbrev pub TestedWell : Publication → Env → List Filter → List Ref → Type 0 → ShelfUse → Result (List Ref) EvalFault → Type 0
+TestedWell p env rest candidates Known shelf result =
+    Outcome cause_of_evaluation (λ refs. IsSetOf refs (λ r. Contains candidates r × IsKeptBy p.objects env rest r) × Known) (NeededBy p (IsTestAsk env rest candidates)) shelf result
 
 abbrev pub PlannedWell : Publication → Option Kind → List Filter → ShelfUse → Result Planned EvalFault → Type 0
 PlannedWell p kind filters shelf result = Outcome cause_of_evaluation (IsPlanned p kind filters) (NeededBy p (AskedByChoice kind filters)) shelf result

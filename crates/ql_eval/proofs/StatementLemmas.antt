@@ -181,12 +181,12 @@ module _ (p : Publication) where
 
 -- ---- statements in the code
 
--- how a statement is run, and how statements are, after which something else is so too
-abbrev pub RanWell : Publication → Statement → Env → Env → Type 0 → ShelfUse → Result (Unit {0}) EvalFault → Type 0
-RanWell p statement env later So shelf result = Outcome cause_of_evaluation (λ _. After p.objects statement env later × So) (NeededBy p (AskedBy p statement env)) shelf result
+-- how a statement is run, and how statements are, after which something else is so too, with what is known then
+abbrev pub RanWell : Publication → Statement → Env → Env → Type 0 → Type 0 → ShelfUse → Result (Unit {0}) EvalFault → Type 0
+RanWell p statement env later So Known shelf result = Outcome cause_of_evaluation (λ _. (After p.objects statement env later × So) × Known) (NeededBy p (AskedBy p statement env)) shelf result
 
-abbrev pub RanAllWell : Publication → Statements → Env → Env → Type 0 → ShelfUse → Result (Vec Ref Global) EvalFault → Type 0
-RanAllWell p parts env later So shelf result = Outcome cause_of_evaluation (λ given. AfterAll p.objects parts env later given.items × So) (NeededBy p (AskedByAll p parts env)) shelf result
+abbrev pub RanAllWell : Publication → Statements → Env → Env → Type 0 → Type 0 → ShelfUse → Result (Vec Ref Global) EvalFault → Type 0
+RanAllWell p parts env later So Known shelf result = Outcome cause_of_evaluation (λ given. (AfterAll p.objects parts env later given.items × So) × Known) (NeededBy p (AskedByAll p parts env)) shelf result
 
 module _ {s t : Statement} (same : s ≡ t) where
   pub needs_as : (p : Publication) (env : Env) (x : List ℕ) → NeededBy p (AskedBy p t env) x → NeededBy p (AskedBy p s env) x

@@ -21,3 +21,4 @@ pub mod Remembering
 pub mod Metering
 pub mod Recalling
 pub mod Affording
+pub mod Truths

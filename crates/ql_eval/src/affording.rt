@@ -37,13 +37,13 @@ pub(crate) fn afford_base<W: Source>(
     ensures later { W.later source.old source.new }
     ensures told { IfErr result (W.tells source.new) }
     ensures answer { let filter = option_map (λ f. filter_of f.now) base.entry in
-        (p : Publication) (env : Env) → IsPublication p → W.under source.old p
+        (p : Publication) (env : Env) → IsPublication p → W.reads source.old p
         → ForSome filter (Allows pick)
         → Within cause_of_evaluation (λ _. ⊤)
         (NeededBy p (AskedByBase p.objects env (kind_picked pick) filter))
         (nodes_around W.holds W.used source.old source.new) result }
     ensures bounded { let filter = option_map (λ f. filter_of f.now) base.entry in
-        (p : Publication) (env : Env) → IsPublication p → W.under source.old p
+        (p : Publication) (env : Env) → IsPublication p → W.reads source.old p
         → ForSome filter (Allows pick) → HasNoClash p (W.used source.new)
         → IsBounded (WorkOfFinding p env pick filter) before meter.old.spent
         → IsBounded (WorkOfFinding p env pick filter) before meter.new.spent }
@@ -68,7 +68,7 @@ fn count_base<W: Source>(
     ensures walked { OnOk result (W.walked source.old source.new) }
     ensures told { IfErr result (W.tells source.new) }
     ensures answer { let filter = option_map (λ f. filter_of f.now) base.entry in
-        (p : Publication) (env : Env) → IsPublication p → W.under source.old p
+        (p : Publication) (env : Env) → IsPublication p → W.reads source.old p
         → ForSome filter (Allows pick)
         → Within cause_of_evaluation (IsPartOf (WorkOfFinding p env pick filter))
         (NeededBy p (AskedByBase p.objects env (kind_picked pick) filter))
@@ -85,7 +85,7 @@ fn count_kinds<W: Source>(source: &mut W, kind: Option<Kind>) -> Result<u64, Eva
     ensures later { W.later source.old source.new }
     ensures walked { OnOk result (W.walked source.old source.new) }
     ensures told { IfErr result (W.tells source.new) }
-    ensures answer { (p : Publication) → IsPublication p → W.under source.old p
+    ensures answer { (p : Publication) → IsPublication p → W.reads source.old p
         → Within cause_of_evaluation
         (IsWithinSet (From (kinds_of kind) (IsOfThisKind p.objects)))
         (NeededBy p (From (kinds_of kind) IsKindAsk))
@@ -105,7 +105,7 @@ fn count_kept<W: Source>(source: &mut W, pick: Pick, filter: &Filter<'_>) -> Res
     ensures walked { OnOk result (W.walked source.old source.new) }
     ensures told { IfErr result (W.tells source.new) }
     ensures answer { let base = Some (filter_of filter.now) in
-        (p : Publication) (env : Env) → IsPublication p → W.under source.old p
+        (p : Publication) (env : Env) → IsPublication p → W.reads source.old p
         → Allows pick (filter_of filter.now)
         → Within cause_of_evaluation (IsPartOf (WorkOfFinding p env pick base))
         (NeededBy p (AskedByBase p.objects env (kind_picked pick) base))

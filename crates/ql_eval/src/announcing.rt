@@ -2,6 +2,7 @@
 
 ghost use Rattle.std.specs.Prelude.{ℕ, List};
 ghost use Rattle.tree_node.specs.Shelves.{SameNodes, Stays};
+ghost use Rattle.ql_eval.specs.internal.Truths.{StaysTrue};
 
 use crate::source::Source;
 use crate::walks::top_of;
@@ -22,6 +23,7 @@ pub(crate) fn announce_object<'a, S: Shelf<'a>>(shelf: &mut S, manifest: &Manife
 pub(crate) fn announce_all<W: Source>(source: &mut W, names: &[Ref])
     ensures later { W.later source.old source.new }
     ensures walked { W.walked source.old source.new }
+    ensures truly { StaysTrue W.under source.old source.new }
     ensures used { SameNodes (W.used source.old) (W.used source.new) }
 {
     for name in names {

@@ -2,7 +2,6 @@
 
 ghost use Rattle.std.specs.Prelude.{◌≡◌, ℕ, IfErr, List, OnOk};
 ghost use Rattle.osm_model.specs.declared.reference.Ref.{Ref};
-ghost use Rattle.tree_node.specs.Outcomes.{Outcome};
 ghost use Rattle.osm_keys.specs.Publications.{IsPublication, Publication};
 ghost use Rattle.ql_syntax.specs.LawfulQueries.{IsQuery, IsTop};
 ghost use Rattle.ql_syntax.specs.StatementViews.{statement_of, statements_of};
@@ -11,7 +10,6 @@ ghost use Rattle.ql_meaning.specs.Meanings.{After, Means_by, told_by};
 ghost use Rattle.ref_sets.specs.NamedSets.{nothing_named, lists_of};
 ghost use Rattle.ql_eval.specs.Absences.{HasIdOf, HaveIdOf};
 ghost use Rattle.ql_eval.specs.Asks.{AskedBy, AskedByAll};
-ghost use Rattle.ql_eval.specs.Faults.{cause_of_evaluation};
 ghost use Rattle.ql_eval.specs.Questions.{NeededBy};
 ghost use Rattle.ql_eval.specs.Work.{HasNoClash, WorkOf, WorkOfQuery};
 ghost use Rattle.ql_eval.specs.Written.{HasWritten};
@@ -19,7 +17,7 @@ ghost use Rattle.ql_eval.specs.internal.Links.{AreAllThere};
 ghost use Rattle.ql_eval.specs.internal.Giving.{AllSetsGiven};
 ghost use Rattle.ql_eval.specs.internal.Metering.{IsBounded, IsSpent, WorkOfLast};
 ghost use Rattle.ql_eval.specs.internal.Recalling.{AreAnswersGiven, AreAnswers};
-ghost use Rattle.tree_walk.specs.Uses.{nodes_around};
+ghost use Rattle.ql_eval.specs.internal.Truths.{EndsTruly};
 
 use crate::fault::EvalFault;
 use crate::meter::Meter;
@@ -52,12 +50,11 @@ pub(crate) fn answer_all<'q, W: Source, T: Sink>(
     ensures wrote { (text : List ℕ) × HasWritten (T.stands sink.old) (T.stands sink.new) text }
     ensures answer { (p : Publication) → IsPublication p → W.under source.old p
         → IsQuery (statements_of statements.now)
-        → Outcome cause_of_evaluation
+        → EndsTruly W.holds W.used W.under source.old source.new p
         (λ _. (text : List ℕ)
         × Means_by (form_text form) p.objects (statements_of statements.now) text
         × HasWritten (T.stands sink.old) (T.stands sink.new) text)
-        (NeededBy p (AskedByAll p (statements_of statements.now) nothing_named))
-        (nodes_around W.holds W.used source.old source.new) result }
+        (NeededBy p (AskedByAll p (statements_of statements.now) nothing_named)) result }
     ensures bounded { (p : Publication) → IsPublication p → W.under source.old p
         → IsQuery (statements_of statements.now) → HasNoClash p (W.used source.new)
         → IsBounded (WorkOfQuery (form_text form) p (statements_of statements.now))
@@ -104,12 +101,12 @@ fn answer_statement<'s, 'q, W: Source, T: Sink>(
         (p : Publication) → IsPublication p → W.under source.old p
         → AreAnswers p (W.used source.old) memo.old.remembered.items
         → AreAllThere p.objects env → IsTop (statement_of statement.now)
-        → Outcome cause_of_evaluation (λ _. After p.objects (statement_of statement.now) env next
+        → EndsTruly W.holds W.used W.under source.old source.new p
+        (λ _. After p.objects (statement_of statement.now) env next
         × HasWritten (T.stands sink.old) (T.stands sink.new)
         (told_by (form_text form) p.objects (statement_of statement.now) env)
         × AreAnswers p (W.used source.new) memo.new.remembered.items)
-        (NeededBy p (AskedBy p (statement_of statement.now) env))
-        (nodes_around W.holds W.used source.old source.new) result }
+        (NeededBy p (AskedBy p (statement_of statement.now) env)) result }
     ensures in_row { let env = lists_of sets.old.named.items in
         (p : Publication) → IsPublication p → W.under source.old p
         → AreAnswers p (W.used source.old) memo.old.remembered.items

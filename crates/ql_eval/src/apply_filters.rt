@@ -2,20 +2,18 @@
 
 ghost use Rattle.std.specs.Prelude.{◌++◌, IfErr, IfOk, OnOk};
 ghost use Rattle.std.specs.List.{Contains};
-ghost use Rattle.tree_node.specs.Outcomes.{Outcome};
 ghost use Rattle.osm_keys.specs.Publications.{IsPublication, Publication};
 ghost use Rattle.ql_syntax.specs.StatementViews.{filters_of};
 ghost use Rattle.ref_sets.specs.Adding.{From};
 ghost use Rattle.ref_sets.specs.Sets.{IsSetOf};
 ghost use Rattle.ref_sets.specs.NamedSets.{lists_of};
 ghost use Rattle.ql_eval.specs.Asks.{AskedByRest};
-ghost use Rattle.ql_eval.specs.Faults.{cause_of_evaluation};
 ghost use Rattle.ql_eval.specs.Questions.{NeededBy};
 ghost use Rattle.ql_eval.specs.internal.Links.{AreAllThere, AreThere};
 ghost use Rattle.ql_eval.specs.internal.Selecting.{IsKeptBy, IsTestAsk};
 ghost use Rattle.ql_eval.specs.internal.Narrowing.{IsNamedByAll};
 ghost use Rattle.ql_eval.specs.internal.Giving.{AllGiven, AllSetsGiven};
-ghost use Rattle.tree_walk.specs.Uses.{nodes_around};
+ghost use Rattle.ql_eval.specs.internal.Truths.{EndsTruly};
 
 use crate::fault::EvalFault;
 use crate::filter_by_object::filter_by_object;
@@ -46,10 +44,10 @@ pub(crate) fn apply_filters<W: Source>(
         let filters = filters_of before.now ++ filters_of after.now in
         (p : Publication) → IsPublication p → W.under source.old p
         → AreThere p.objects candidates → AreAllThere p.objects env
-        → Outcome cause_of_evaluation (λ refs. IsSetOf refs
+        → EndsTruly W.holds W.used W.under source.old source.new p
+        (λ refs. IsSetOf refs
         (λ r. Contains candidates r × IsKeptBy p.objects env filters r))
-        (NeededBy p (IsTestAsk env filters candidates))
-        (nodes_around W.holds W.used source.old source.new) result }
+        (NeededBy p (IsTestAsk env filters candidates)) result }
 {
     if before.is_empty() && after.is_empty() {
         // For the proof alone: a set rises.
@@ -78,10 +76,10 @@ fn filter_by_both<W: Source>(
     ensures answer { let env = lists_of sets.now.named.items in
         let filters = filters_of before.now ++ filters_of after.now in
         (p : Publication) → IsPublication p → W.under source.old p → AreAllThere p.objects env
-        → Outcome cause_of_evaluation (λ left. IsSetOf left
+        → EndsTruly W.holds W.used W.under source.old source.new p
+        (λ left. IsSetOf left
         (λ r. Contains refs r × IsNamedByAll p.objects env filters r))
-        (NeededBy p (From filters (AskedByRest env)))
-        (nodes_around W.holds W.used source.old source.new) result }
+        (NeededBy p (From filters (AskedByRest env))) result }
 {
     let left = filter_by_reference(alloc, source, refs, before, sets)?;
     filter_by_reference(alloc, source, left, after, sets)

@@ -6,7 +6,6 @@ ghost use Rattle.std.specs.Option.{ForSome, option_map, option_to_list};
 ghost use Rattle.osm_model.specs.Limits.{HasNoNul};
 ghost use Rattle.osm_model.specs.Tagged.{HasKeyOf};
 ghost use Rattle.osm_model.specs.declared.reference.Ref.{Ref};
-ghost use Rattle.tree_node.specs.Outcomes.{Outcome};
 ghost use Rattle.osm_keys.specs.Publications.{IsPublication, Publication};
 ghost use Rattle.osm_keys.specs.Ranges.{IsKindOf};
 ghost use Rattle.ql_syntax.specs.LawfulQueries.{Allows};
@@ -19,7 +18,6 @@ ghost use Rattle.ql_plan.specs.Plans.{never, rank_of};
 ghost use Rattle.ql_eval.specs.Absences.{IsAskedById};
 ghost use Rattle.ql_eval.specs.Asks.{AskedByBase, AskedFor, IsAskedInBox, kind_picked};
 ghost use Rattle.ql_eval.specs.internal.Boxes.{IsInBox};
-ghost use Rattle.ql_eval.specs.Faults.{cause_of_evaluation};
 ghost use Rattle.ql_eval.specs.Questions.{NeededBy, names_ask, object_ask};
 ghost use Rattle.ql_eval.specs.Questions as questions;
 ghost use Rattle.ql_eval.specs.Work.{HasNoClash, IsInCellsOf, OfSet, Steps, WorkOfBase};
@@ -29,7 +27,7 @@ ghost use Rattle.ql_eval.specs.internal.Entries.{IsThere};
 ghost use Rattle.ql_eval.specs.internal.Links.{AreAllThere};
 ghost use Rattle.ql_eval.specs.internal.Giving.{AllGiven, AllSetsGiven};
 ghost use Rattle.ql_eval.specs.internal.Metering.{IsBounded, IsSpent};
-ghost use Rattle.tree_walk.specs.Uses.{nodes_around};
+ghost use Rattle.ql_eval.specs.internal.Truths.{EndsTruly};
 
 use crate::affording::afford_base;
 use crate::fault::EvalFault;
@@ -67,10 +65,10 @@ pub(crate) fn find_candidates<W: Source>(
         let filter = option_map (λ f. filter_of f.now) base.entry in
         (p : Publication) → IsPublication p → W.under source.old p → AreAllThere p.objects env
         → ForSome filter (Allows pick)
-        → Outcome cause_of_evaluation (λ refs. IsSetOf refs
+        → EndsTruly W.holds W.used W.under source.old source.new p
+        (λ refs. IsSetOf refs
         (IsRefOf p.objects (IsSelected p.objects env pick (option_to_list filter))))
-        (NeededBy p (AskedByBase p.objects env (kind_picked pick) filter))
-        (nodes_around W.holds W.used source.old source.new) result }
+        (NeededBy p (AskedByBase p.objects env (kind_picked pick) filter)) result }
     // Where there is more to read than the budget allows, steps for candidates have been counted.
     ensures bounded { let env = lists_of sets.now.named.items in
         let filter = option_map (λ f. filter_of f.now) base.entry in
@@ -121,10 +119,10 @@ fn read_base<W: Source>(
         let filter = option_map (λ f. filter_of f.now) base.entry in
         (p : Publication) → IsPublication p → W.under source.old p → AreAllThere p.objects env
         → ForSome filter (Allows pick)
-        → Outcome cause_of_evaluation (λ refs. IsSetOf refs
+        → EndsTruly W.holds W.used W.under source.old source.new p
+        (λ refs. IsSetOf refs
         (IsRefOf p.objects (IsSelected p.objects env pick (option_to_list filter))))
-        (NeededBy p (AskedByBase p.objects env (kind_picked pick) filter))
-        (nodes_around W.holds W.used source.old source.new) result }
+        (NeededBy p (AskedByBase p.objects env (kind_picked pick) filter)) result }
     ensures bounded { let env = lists_of sets.now.named.items in
         let filter = option_map (λ f. filter_of f.now) base.entry in
         (p : Publication) → IsPublication p → W.under source.old p → AreAllThere p.objects env
@@ -154,10 +152,9 @@ fn of_kinds<W: Source>(
     ensures told { IfErr result (W.tells source.new) }
     ensures named { IfOk result (AllGiven (W.gave source.new)) }
     ensures answer { (p : Publication) → IsPublication p → W.under source.old p
-        → Outcome cause_of_evaluation
+        → EndsTruly W.holds W.used W.under source.old source.new p
         (λ refs. IsSetOf refs (From kinds.now (IsOfThisKind p.objects)))
-        (NeededBy p (From kinds.now IsKindAsk))
-        (nodes_around W.holds W.used source.old source.new) result }
+        (NeededBy p (From kinds.now IsKindAsk)) result }
 {
     let mut refs = Vec::new(alloc);
     for kind in kinds {
@@ -179,10 +176,9 @@ fn add_kind<W: Source>(
     ensures told { IfErr result (W.tells source.new) }
     ensures named { OnOk result (AllGiven (W.gave source.new) refs.new.items) }
     ensures answer { (p : Publication) → IsPublication p → W.under source.old p
-        → Outcome cause_of_evaluation
+        → EndsTruly W.holds W.used W.under source.old source.new p
         (λ _. Adds refs.old.items refs.new.items (IsOfThisKind p.objects kind))
-        (NeededBy p (IsKindAsk kind))
-        (nodes_around W.holds W.used source.old source.new) result }
+        (NeededBy p (IsKindAsk kind)) result }
 {
     let found = source.names(&Question::OfKind(kind), most)?;
     refs.extend_from_slice(found.as_slice())?;
@@ -209,10 +205,11 @@ fn kept_by<W: Source>(
     ensures answer { let env = lists_of sets.now.named.items in
         (p : Publication) → IsPublication p → W.under source.old p
         → AreAllThere p.objects env → Allows pick (filter_of filter.now)
-        → Outcome cause_of_evaluation (λ refs. IsSetOf refs
+        → EndsTruly W.holds W.used W.under source.old source.new p
+        (λ refs. IsSetOf refs
         (IsKeptOf p.objects env (kind_picked pick) (filter_of filter.now)))
         (NeededBy p (AskedByBase p.objects env (kind_picked pick) (Some (filter_of filter.now))))
-        (nodes_around W.holds W.used source.old source.new) result }
+        result }
     ensures bounded { let env = lists_of sets.now.named.items in
         (p : Publication) → IsPublication p → W.under source.old p → AreAllThere p.objects env
         → Allows pick (filter_of filter.now) → HasNoClash p (W.used source.new)
@@ -252,10 +249,9 @@ fn with_ids<W: Source>(
     ensures told { IfErr result (W.tells source.new) }
     ensures named { IfOk result (AllGiven (W.gave source.new)) }
     ensures answer { (p : Publication) → IsPublication p → W.under source.old p
-        → Outcome cause_of_evaluation
+        → EndsTruly W.holds W.used W.under source.old source.new p
         (λ refs. IsSetOf refs (λ r. IsOfIds kind ids.now r × IsThere p.objects r))
-        (NeededBy p (AskedFor (IsOfIds kind ids.now) object_ask))
-        (nodes_around W.holds W.used source.old source.new) result }
+        (NeededBy p (AskedFor (IsOfIds kind ids.now) object_ask)) result }
 {
     let names = references(alloc, kinds_in(kind), ids)?;
     those_there(alloc, source, &names)
@@ -297,10 +293,10 @@ fn with_key<W: Source>(
     ensures told { IfErr result (W.tells source.new) }
     ensures named { IfOk result (AllGiven (W.gave source.new)) }
     ensures answer { (p : Publication) → IsPublication p → W.under source.old p → HasNoNul key.now
-        → Outcome cause_of_evaluation (λ refs. IsSetOf refs
+        → EndsTruly W.holds W.used W.under source.old source.new p
+        (λ refs. IsSetOf refs
         (λ r. IsRefOf p.objects (λ o. HasKeyOf o key.now) r × IsKindOf kind r))
-        (NeededBy p (λ ask. ask ≡ names_ask (questions.WithKey key.now)))
-        (nodes_around W.holds W.used source.old source.new) result }
+        (NeededBy p (λ ask. ask ≡ names_ask (questions.WithKey key.now))) result }
     ensures bounded { (p : Publication) → IsPublication p → W.under source.old p → HasNoNul key.now
         → HasNoClash p (W.used source.new)
         → IsBounded (OfSet (IsRefOf p.objects (λ o. HasKeyOf o key.now))
@@ -328,10 +324,9 @@ fn in_box<W: Source>(
     ensures told { IfErr result (W.tells source.new) }
     ensures named { IfOk result (AllGiven (W.gave source.new)) }
     ensures answer { (p : Publication) → IsPublication p → W.under source.old p
-        → Outcome cause_of_evaluation
+        → EndsTruly W.holds W.used W.under source.old source.new p
         (λ refs. IsSetOf refs (λ r. IsRefOf p.objects (IsInBox area.now) r × IsKindOf kind r))
-        (NeededBy p (IsAskedInBox area.now))
-        (nodes_around W.holds W.used source.old source.new) result }
+        (NeededBy p (IsAskedInBox area.now)) result }
     ensures bounded { (p : Publication) → IsPublication p → W.under source.old p
         → HasNoClash p (W.used source.new)
         → IsBounded (OfSet (IsRefOf p.objects (IsInCellsOf area.now))

@@ -2,11 +2,9 @@
 
 ghost use Rattle.std.specs.Prelude.{◌≡◌, ◌++◌, ℕ, IfErr, IfOk, List, OnOk, length};
 ghost use Rattle.std.specs.List.{Contains};
-ghost use Rattle.tree_node.specs.Outcomes.{Outcome};
 ghost use Rattle.osm_keys.specs.Publications.{IsPublication, Publication};
 ghost use Rattle.ref_sets.specs.Adding.{Adds, From};
 ghost use Rattle.ref_sets.specs.Sets.{IsSetOf};
-ghost use Rattle.ql_eval.specs.Faults.{cause_of_evaluation};
 ghost use Rattle.ql_eval.specs.Questions.{NeededBy};
 ghost use Rattle.ql_eval.specs.Work.{HasNoClash, OfSet, Steps};
 ghost use Rattle.ql_eval.specs.internal.Affording.{AreApart};
@@ -15,7 +13,7 @@ ghost use Rattle.ql_eval.specs.internal.Founds.{Goes, IsConsistent};
 ghost use Rattle.ql_eval.specs.internal.Links.{AreThere};
 ghost use Rattle.ql_eval.specs.internal.Giving.{AllGiven};
 ghost use Rattle.ql_eval.specs.internal.Metering.{IsBounded};
-ghost use Rattle.tree_walk.specs.Uses.{nodes_around};
+ghost use Rattle.ql_eval.specs.internal.Truths.{EndsTruly};
 
 use crate::fault::EvalFault;
 use crate::found::Found;
@@ -52,9 +50,9 @@ pub(crate) fn closure<W: Source>(
     ensures named { IfOk result (AllGiven (W.gave source.new)) }
     ensures answer { (p : Publication) → IsPublication p → W.under source.old p
         → AreThere p.objects from.now
-        → Outcome cause_of_evaluation (λ refs. IsSetOf refs (IsEnd direction p.objects from.now))
-        (NeededBy p (IsEndAsk direction p.objects from.now))
-        (nodes_around W.holds W.used source.old source.new) result }
+        → EndsTruly W.holds W.used W.under source.old source.new p
+        (λ refs. IsSetOf refs (IsEnd direction p.objects from.now))
+        (NeededBy p (IsEndAsk direction p.objects from.now)) result }
     ensures bounded { (p : Publication) → IsPublication p → W.under source.old p
         → AreThere p.objects from.now → HasNoClash p (W.used source.new)
         → IsBounded (OfSet (IsEnd direction p.objects from.now) (λ found. Steps (length found)))
@@ -89,10 +87,9 @@ fn one_link<W: Source>(
     ensures named { IfOk result (AllGiven (W.gave source.new)) }
     ensures answer { (p : Publication) → IsPublication p → W.under source.old p
         → AreThere p.objects names.now
-        → Outcome cause_of_evaluation
+        → EndsTruly W.holds W.used W.under source.old source.new p
         (λ refs. IsSetOf refs (From names.now (Leads direction p.objects)))
-        (NeededBy p (From names.now (LeadsAsk direction p.objects)))
-        (nodes_around W.holds W.used source.old source.new) result }
+        (NeededBy p (From names.now (LeadsAsk direction p.objects))) result }
 {
     match direction {
         Direction::Down => members_there(alloc, source, names, Kind::Node, Kind::Rel),

@@ -12,6 +12,7 @@ ghost use Rattle.ql_eval.specs.Faults.{cause_of_evaluation};
 ghost use Rattle.ql_eval.specs.Questions.{NeededBy};
 ghost use Rattle.ql_eval.specs.Asks.{AskedByChoice};
 ghost use Rattle.ql_eval.specs.internal.Counting.{HasCounted, IsRivalAsk};
+ghost use Rattle.ql_eval.specs.internal.Truths.{StaysTrue};
 ghost use Rattle.tree_walk.specs.Uses.{nodes_around};
 
 use crate::fault::EvalFault;
@@ -33,10 +34,11 @@ pub(crate) fn choose_plan<'q, 's, W: Source>(
     ensures later { W.later source.old source.new }
     ensures walked { OnOk result (W.walked source.old source.new) }
     ensures told { IfErr result (W.tells source.new) }
+    ensures truly { StaysTrue W.under source.old source.new }
     // Whatever the source tells, the plan has these filters, and its base is one that can be a base.
     ensures written { IfOk result (λ plan. (filters_in plan ≡ filters_of filters.now)
         × ForSome plan.base (λ base. rank_of base < never)) }
-    ensures answer { (p : Publication) → IsPublication p → W.under source.old p
+    ensures answer { (p : Publication) → IsPublication p → W.reads source.old p
         → Outcome cause_of_evaluation (IsPlanned p kind (filters_of filters.now))
         (NeededBy p (AskedByChoice kind (filters_of filters.now)))
         (nodes_around W.holds W.used source.old source.new) result }
@@ -59,9 +61,10 @@ fn counts_of<W: Source>(
     ensures later { W.later source.old source.new }
     ensures walked { OnOk result (W.walked source.old source.new) }
     ensures told { IfErr result (W.tells source.new) }
+    ensures truly { StaysTrue W.under source.old source.new }
     ensures many { IfOk result
         (λ counts. length counts.items ≡ length (filter is_counted (filters_of filters.now))) }
-    ensures answer { (p : Publication) → IsPublication p → W.under source.old p
+    ensures answer { (p : Publication) → IsPublication p → W.reads source.old p
         → Outcome cause_of_evaluation
         (λ counts. AreCounts p kind (filter is_counted (filters_of filters.now)) counts.items)
         (NeededBy p (From (filters_of filters.now) (IsRivalAsk kind)))
@@ -84,10 +87,11 @@ fn add_count<W: Source>(
     ensures later { W.later source.old source.new }
     ensures walked { OnOk result (W.walked source.old source.new) }
     ensures told { IfErr result (W.tells source.new) }
+    ensures truly { StaysTrue W.under source.old source.new }
     ensures many { OnOk result
         (length counts.new.items ≡ length counts.old.items +
         (if is_counted (filter_of filter.now) then 1 else 0)) }
-    ensures answer { (p : Publication) → IsPublication p → W.under source.old p
+    ensures answer { (p : Publication) → IsPublication p → W.reads source.old p
         → Outcome cause_of_evaluation
         (λ _. HasCounted p kind (filter_of filter.now) counts.old.items counts.new.items)
         (NeededBy p (IsRivalAsk kind (filter_of filter.now)))

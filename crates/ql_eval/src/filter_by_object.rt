@@ -1,20 +1,18 @@
 //! Filters that look at an object.
 
 ghost use Rattle.std.specs.Prelude.{◌++◌, ◌↔◌, IfErr, IfOk, IsTrue, OnOk};
-ghost use Rattle.tree_node.specs.Outcomes.{Outcome};
 ghost use Rattle.osm_keys.specs.Publications.{IsPublication, Publication};
 ghost use Rattle.ql_syntax.specs.StatementViews.{filter_of, filters_of};
 ghost use Rattle.ref_sets.specs.Adding.{Adds, From};
 ghost use Rattle.ref_sets.specs.Sets.{IsSetOf};
 ghost use Rattle.ref_sets.specs.NamedSets.{lists_of};
-ghost use Rattle.ql_eval.specs.Faults.{cause_of_evaluation};
 ghost use Rattle.ql_eval.specs.Questions.{NeededBy};
 ghost use Rattle.ql_eval.specs.internal.Entries.{IsThere};
 ghost use Rattle.ql_eval.specs.internal.Links.{AreThere, IsObjectAsk};
 ghost use Rattle.ql_eval.specs.internal.Objects.{AreKnownThere, IsKnownThere};
 ghost use Rattle.ql_eval.specs.internal.Narrowing.{IsPassingAs, PassesAll, PassesItself, PassesPath};
 ghost use Rattle.ql_eval.specs.internal.Giving.{AllGiven};
-ghost use Rattle.tree_walk.specs.Uses.{nodes_around};
+ghost use Rattle.ql_eval.specs.internal.Truths.{EndsTruly};
 
 use crate::announcing::announce_all;
 use crate::fault::EvalFault;
@@ -46,10 +44,10 @@ pub(crate) fn filter_by_object<W: Source>(
         let filters = filters_of before.now ++ filters_of after.now in
         (p : Publication) → IsPublication p → W.under source.old p
         → AreThere p.objects candidates.now
-        → Outcome cause_of_evaluation (λ refs. IsSetOf refs
+        → EndsTruly W.holds W.used W.under source.old source.new p
+        (λ refs. IsSetOf refs
         (From candidates.now (IsPassingAs p.objects env filters)))
-        (NeededBy p (From candidates.now IsObjectAsk))
-        (nodes_around W.holds W.used source.old source.new) result }
+        (NeededBy p (From candidates.now IsObjectAsk)) result }
 {
     let mut refs = Vec::new(alloc);
     let names = candidates.as_slice();
@@ -79,10 +77,9 @@ fn add_passing<W: Source>(
     ensures answer { let env = lists_of sets.now.named.items in
         let filters = filters_of before.now ++ filters_of after.now in
         (p : Publication) → IsPublication p → W.under source.old p → IsThere p.objects name
-        → Outcome cause_of_evaluation
+        → EndsTruly W.holds W.used W.under source.old source.new p
         (λ _. Adds refs.old.items refs.new.items (IsPassingAs p.objects env filters name))
-        (NeededBy p (IsObjectAsk name))
-        (nodes_around W.holds W.used source.old source.new) result }
+        (NeededBy p (IsObjectAsk name)) result }
 {
     source.look_up(name)?;
     match source.known(name) {

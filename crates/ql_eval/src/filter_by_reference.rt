@@ -3,19 +3,17 @@
 ghost use Rattle.std.specs.Prelude.{◌≢◌, IfErr, IfOk, OnOk};
 ghost use Rattle.std.specs.List.{Contains};
 ghost use Rattle.osm_model.specs.declared.kind.Kind.TheVariants as kinds;
-ghost use Rattle.tree_node.specs.Outcomes.{Outcome};
 ghost use Rattle.osm_keys.specs.Publications.{IsPublication, Publication};
 ghost use Rattle.ql_syntax.specs.StatementViews.{filter_of, filters_of};
 ghost use Rattle.ref_sets.specs.Adding.{Adds, From};
 ghost use Rattle.ref_sets.specs.Sets.{IsSetOf};
 ghost use Rattle.ref_sets.specs.NamedSets.{lists_of};
 ghost use Rattle.ql_eval.specs.Asks.{AskedByRest, AskedFor, IsListedBy, IsOfKindIn};
-ghost use Rattle.ql_eval.specs.Faults.{cause_of_evaluation};
 ghost use Rattle.ql_eval.specs.Questions.{NeededBy, object_ask};
 ghost use Rattle.ql_eval.specs.internal.Links.{AreAllThere, AreThere};
 ghost use Rattle.ql_eval.specs.internal.Narrowing.{AskedByPathDown, HasId, IsNamedBy, IsNamedByAll, IsNamedOnPath};
 ghost use Rattle.ql_eval.specs.internal.Giving.{AllGiven, AllSetsGiven};
-ghost use Rattle.tree_walk.specs.Uses.{nodes_around};
+ghost use Rattle.ql_eval.specs.internal.Truths.{EndsTruly};
 
 use crate::fault::EvalFault;
 use crate::links::members_of;
@@ -42,10 +40,10 @@ pub(crate) fn filter_by_reference<W: Source>(
     ensures named { IfOk result (AllGiven (W.gave source.new)) }
     ensures answer { let env = lists_of sets.now.named.items in
         (p : Publication) → IsPublication p → W.under source.old p → AreAllThere p.objects env
-        → Outcome cause_of_evaluation (λ left. IsSetOf left
+        → EndsTruly W.holds W.used W.under source.old source.new p
+        (λ left. IsSetOf left
         (λ r. Contains refs r × IsNamedByAll p.objects env (filters_of filters.now) r))
-        (NeededBy p (From (filters_of filters.now) (AskedByRest env)))
-        (nodes_around W.holds W.used source.old source.new) result }
+        (NeededBy p (From (filters_of filters.now) (AskedByRest env))) result }
 {
     // For the proof alone: a set rises.
     let _ = refs.as_slice();
@@ -72,10 +70,10 @@ fn named<W: Source>(
     ensures named { IfOk result (AllGiven (W.gave source.new)) }
     ensures answer { let env = lists_of sets.now.named.items in
         (p : Publication) → IsPublication p → W.under source.old p → AreAllThere p.objects env
-        → Outcome cause_of_evaluation (λ left. IsSetOf left
+        → EndsTruly W.holds W.used W.under source.old source.new p
+        (λ left. IsSetOf left
         (λ r. Contains refs r × IsNamedBy p.objects env r (filter_of filter.now)))
-        (NeededBy p (AskedByRest env (filter_of filter.now)))
-        (nodes_around W.holds W.used source.old source.new) result }
+        (NeededBy p (AskedByRest env (filter_of filter.now))) result }
 {
     // For the proof alone: a set rises.
     let _ = refs.as_slice();
@@ -135,10 +133,9 @@ fn on_path<W: Source>(
     ensures named { IfOk result (AllGiven (W.gave source.new)) }
     ensures answer { (p : Publication) → IsPublication p → W.under source.old p
         → AreThere p.objects from.now
-        → Outcome cause_of_evaluation
+        → EndsTruly W.holds W.used W.under source.old source.new p
         (λ left. IsSetOf left (λ r. Contains refs r × IsNamedOnPath p.objects from.now path r))
-        (NeededBy p (AskedByPathDown from.now path))
-        (nodes_around W.holds W.used source.old source.new) result }
+        (NeededBy p (AskedByPathDown from.now path)) result }
 {
     // For the proof alone: a set rises.
     let _ = refs.as_slice();
@@ -167,10 +164,10 @@ fn listed_from<W: Source>(
     ensures named { IfOk result (AllGiven (W.gave source.new)) }
     ensures answer { (p : Publication) → IsPublication p → W.under source.old p
         → AreThere p.objects from.now
-        → Outcome cause_of_evaluation (λ left. IsSetOf left
+        → EndsTruly W.holds W.used W.under source.old source.new p
+        (λ left. IsSetOf left
         (λ r. Contains refs.now r × IsListedBy p.objects (IsOfKindIn from.now kind) r))
-        (NeededBy p (AskedFor (IsOfKindIn from.now kind) object_ask))
-        (nodes_around W.holds W.used source.old source.new) result }
+        (NeededBy p (AskedFor (IsOfKindIn from.now kind) object_ask)) result }
 {
     let listed = members_of(alloc, source, from.of_kinds(kind, kind))?;
     Ok(refs.intersection(alloc, &listed)?)

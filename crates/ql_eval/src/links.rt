@@ -3,17 +3,15 @@
 ghost use Rattle.std.specs.Prelude.{◌≡◌, ℕ, IfErr, IfOk, List, OnOk};
 ghost use Rattle.std.specs.List.{Contains};
 ghost use Rattle.osm_model.specs.declared.kind.Kind.{Kind};
-ghost use Rattle.tree_node.specs.Outcomes.{Outcome};
 ghost use Rattle.osm_keys.specs.Publications.{IsPublication, Publication};
 ghost use Rattle.ref_sets.specs.Adding.{Adds, From};
 ghost use Rattle.ref_sets.specs.Sets.{IsSetOf};
-ghost use Rattle.ql_eval.specs.Faults.{cause_of_evaluation};
 ghost use Rattle.ql_eval.specs.Questions.{NeededBy};
 ghost use Rattle.ql_eval.specs.internal.Entries.{IsThere};
 ghost use Rattle.ql_eval.specs.internal.Links.{AreThere, IsBackAsk, IsBelowAsk, IsListedIn, IsListedOf, IsObjectAsk, IsParentAsk, IsThereAs, ListsIt};
 ghost use Rattle.ql_eval.specs.internal.Objects.{AreKnownParents, IsKnownParent};
 ghost use Rattle.ql_eval.specs.internal.Giving.{AllGiven};
-ghost use Rattle.tree_walk.specs.Uses.{nodes_around};
+ghost use Rattle.ql_eval.specs.internal.Truths.{EndsTruly};
 
 use crate::announcing::announce_all;
 use crate::fault::EvalFault;
@@ -39,9 +37,9 @@ pub(crate) fn members_of<W: Source>(
     ensures there { OnOk result (AreKnownParents (W.knows source.new) names.now) }
     ensures answer { (p : Publication) → IsPublication p → W.under source.old p
         → AreThere p.objects names.now
-        → Outcome cause_of_evaluation (λ refs. IsSetOf refs (From names.now (IsListedOf p.objects)))
-        (NeededBy p (From names.now IsParentAsk))
-        (nodes_around W.holds W.used source.old source.new) result }
+        → EndsTruly W.holds W.used W.under source.old source.new p
+        (λ refs. IsSetOf refs (From names.now (IsListedOf p.objects)))
+        (NeededBy p (From names.now IsParentAsk)) result }
 {
     let mut listed = Vec::new(alloc);
     for name in names {
@@ -61,10 +59,9 @@ fn add_listed<W: Source>(source: &mut W, name: Ref, listed: &mut Vec<Ref>) -> Re
     ensures there { OnOk result (IsKnownParent (W.knows source.new) name) }
     ensures answer { (p : Publication) → IsPublication p → W.under source.old p
         → IsThere p.objects name
-        → Outcome cause_of_evaluation
+        → EndsTruly W.holds W.used W.under source.old source.new p
         (λ _. Adds listed.old.items listed.new.items (IsListedOf p.objects name))
-        (NeededBy p (IsParentAsk name))
-        (nodes_around W.holds W.used source.old source.new) result }
+        (NeededBy p (IsParentAsk name)) result }
 {
     if name.kind == Kind::Node {
         return Ok(());
@@ -91,9 +88,9 @@ pub(crate) fn those_there<W: Source>(
     ensures told { IfErr result (W.tells source.new) }
     ensures named { IfOk result (AllGiven (W.gave source.new)) }
     ensures answer { (p : Publication) → IsPublication p → W.under source.old p
-        → Outcome cause_of_evaluation (λ refs. IsSetOf refs (From names.now (IsThereAs p.objects)))
-        (NeededBy p (From names.now IsObjectAsk))
-        (nodes_around W.holds W.used source.old source.new) result }
+        → EndsTruly W.holds W.used W.under source.old source.new p
+        (λ refs. IsSetOf refs (From names.now (IsThereAs p.objects)))
+        (NeededBy p (From names.now IsObjectAsk)) result }
 {
     announce_all(source, names);
     let mut there = Vec::new(alloc);
@@ -112,10 +109,9 @@ fn add_there<W: Source>(source: &mut W, name: Ref, there: &mut Vec<Ref>) -> Resu
     ensures told { IfErr result (W.tells source.new) }
     ensures named { OnOk result (AllGiven (W.gave source.new) there.new.items) }
     ensures answer { (p : Publication) → IsPublication p → W.under source.old p
-        → Outcome cause_of_evaluation
+        → EndsTruly W.holds W.used W.under source.old source.new p
         (λ _. Adds there.old.items there.new.items (IsThereAs p.objects name))
-        (NeededBy p (IsObjectAsk name))
-        (nodes_around W.holds W.used source.old source.new) result }
+        (NeededBy p (IsObjectAsk name)) result }
 {
     source.look_up(name)?;
     if source.known(name).is_some() {
@@ -136,10 +132,9 @@ pub(crate) fn referrers_of<W: Source>(
     ensures told { IfErr result (W.tells source.new) }
     ensures named { IfOk result (AllGiven (W.gave source.new)) }
     ensures answer { (p : Publication) → IsPublication p → W.under source.old p
-        → Outcome cause_of_evaluation
+        → EndsTruly W.holds W.used W.under source.old source.new p
         (λ refs. IsSetOf refs (From names.now (ListsIt p.objects kind)))
-        (NeededBy p (From names.now (IsBackAsk kind)))
-        (nodes_around W.holds W.used source.old source.new) result }
+        (NeededBy p (From names.now (IsBackAsk kind))) result }
 {
     let mut refs = Vec::new(alloc);
     for name in names {
@@ -161,10 +156,9 @@ fn add_referrers<W: Source>(
     ensures told { IfErr result (W.tells source.new) }
     ensures named { OnOk result (AllGiven (W.gave source.new) refs.new.items) }
     ensures answer { (p : Publication) → IsPublication p → W.under source.old p
-        → Outcome cause_of_evaluation
+        → EndsTruly W.holds W.used W.under source.old source.new p
         (λ _. Adds refs.old.items refs.new.items (ListsIt p.objects kind name))
-        (NeededBy p (IsBackAsk kind name))
-        (nodes_around W.holds W.used source.old source.new) result }
+        (NeededBy p (IsBackAsk kind name)) result }
 {
     let found = source.names(&Question::ThatList(name, kind), usize::MAX)?;
     refs.extend_from_slice(found.as_slice())?;
@@ -186,10 +180,10 @@ pub(crate) fn members_there<W: Source>(
     ensures named { IfOk result (AllGiven (W.gave source.new)) }
     ensures answer { (p : Publication) → IsPublication p → W.under source.old p
         → AreThere p.objects names.now
-        → Outcome cause_of_evaluation (λ refs. IsSetOf refs
+        → EndsTruly W.holds W.used W.under source.old source.new p
+        (λ refs. IsSetOf refs
         (λ r. IsListedIn p.objects names.now first last r × IsThere p.objects r))
-        (NeededBy p (IsBelowAsk p.objects names.now first last))
-        (nodes_around W.holds W.used source.old source.new) result }
+        (NeededBy p (IsBelowAsk p.objects names.now first last)) result }
 {
     let listed = members_of(alloc, source, names)?;
     those_there(alloc, source, listed.of_kinds(first, last))

@@ -2,16 +2,14 @@
 
 ghost use Rattle.std.specs.Prelude.{◌≡◌, ◌≢◌, ℕ, IfErr, IfOk, List, OnOk};
 ghost use Rattle.osm_model.specs.declared.kind.Kind.TheVariants as kinds;
-ghost use Rattle.tree_node.specs.Outcomes.{Outcome};
 ghost use Rattle.osm_keys.specs.Publications.{IsPublication, Publication};
 ghost use Rattle.ref_sets.specs.Sets.{IsSetOf};
 ghost use Rattle.ql_eval.specs.Asks.{AskedBelow, AskedByPath};
-ghost use Rattle.ql_eval.specs.Faults.{cause_of_evaluation};
 ghost use Rattle.ql_eval.specs.Questions.{NeededBy};
 ghost use Rattle.ql_eval.specs.internal.Links.{AreThere};
 ghost use Rattle.ql_eval.specs.internal.Paths.{IsAt, IsBelowOf};
 ghost use Rattle.ql_eval.specs.internal.Giving.{AllGiven};
-ghost use Rattle.tree_walk.specs.Uses.{nodes_around};
+ghost use Rattle.ql_eval.specs.internal.Truths.{EndsTruly};
 
 use crate::fault::EvalFault;
 use crate::kinds::{first_kind, last_kind};
@@ -38,9 +36,9 @@ pub(crate) fn on_path<W: Source>(
     ensures named { IfOk result (AllGiven (W.gave source.new)) }
     ensures answer { (p : Publication) → IsPublication p → W.under source.old p
         → AreThere p.objects set.now
-        → Outcome cause_of_evaluation (λ refs. IsSetOf refs (IsAt p.objects set.now kind path))
-        (NeededBy p (AskedByPath p.objects set.now kind path))
-        (nodes_around W.holds W.used source.old source.new) result }
+        → EndsTruly W.holds W.used W.under source.old source.new p
+        (λ refs. IsSetOf refs (IsAt p.objects set.now kind path))
+        (NeededBy p (AskedByPath p.objects set.now kind path)) result }
 {
     match path {
         Path::W => below_of(alloc, source, set, Kind::Way, kind),
@@ -66,9 +64,9 @@ fn below_of<W: Source>(
     ensures named { IfOk result (AllGiven (W.gave source.new)) }
     ensures answer { (p : Publication) → IsPublication p → W.under source.old p
         → AreThere p.objects set.now → from ≢ kinds.Node
-        → Outcome cause_of_evaluation (λ refs. IsSetOf refs (IsBelowOf p.objects set.now from kind))
-        (NeededBy p (AskedBelow p.objects set.now from kind))
-        (nodes_around W.holds W.used source.old source.new) result }
+        → EndsTruly W.holds W.used W.under source.old source.new p
+        (λ refs. IsSetOf refs (IsBelowOf p.objects set.now from kind))
+        (NeededBy p (AskedBelow p.objects set.now from kind)) result }
 {
     let names = set.of_kinds(from, from);
     members_there(alloc, source, names, first_kind(kind), last_kind(kind))

@@ -3,12 +3,10 @@
 ghost use Rattle.std.specs.Prelude.{◌≡◌, ◌≢◌, ◌≤◌, ◌+◌, ℕ, IfErr, List, OnOk, length};
 ghost use Rattle.osm_model.specs.Sets.{object_at};
 ghost use Rattle.osm_forms.specs.Forms.{form_name, form_text};
-ghost use Rattle.tree_node.specs.Outcomes.{Outcome};
 ghost use Rattle.osm_keys.specs.Publications.{IsPublication, Publication};
 ghost use Rattle.ref_sets.specs.Adding.{From};
 ghost use Rattle.ql_meaning.specs.Meanings.{cut, printed_of_by};
 ghost use Rattle.ql_eval.specs.Asks.{AskedByOut};
-ghost use Rattle.ql_eval.specs.Faults.{cause_of_evaluation};
 ghost use Rattle.ql_eval.specs.Questions.{NeededBy};
 ghost use Rattle.ql_eval.specs.Work.{HasNoClash, WorkOfOut};
 ghost use Rattle.ql_eval.specs.Written.{HasWritten};
@@ -18,7 +16,7 @@ ghost use Rattle.ql_eval.specs.internal.Objects.{AreKnownThere, IsKnownThere};
 ghost use Rattle.ql_eval.specs.internal.Printing.{line_at, lines_at, name_lines};
 ghost use Rattle.ql_eval.specs.internal.Giving.{AllGiven};
 ghost use Rattle.ql_eval.specs.internal.Metering.{IsBounded, IsCounted, IsSpent};
-ghost use Rattle.tree_walk.specs.Uses.{nodes_around};
+ghost use Rattle.ql_eval.specs.internal.Truths.{EndsTruly};
 
 use crate::announcing::announce_all;
 use crate::fault::EvalFault;
@@ -55,10 +53,10 @@ pub(crate) fn print<W: Source, T: Sink>(
         (mode ≢ OutMode.Ids → AreKnownThere (W.knows source.new) (cut limit refs.now)) }
     ensures answer { (p : Publication) → IsPublication p → W.under source.old p
         → AreThere p.objects refs.now
-        → Outcome cause_of_evaluation (λ _. HasWritten (T.stands sink.old) (T.stands sink.new)
+        → EndsTruly W.holds W.used W.under source.old source.new p
+        (λ _. HasWritten (T.stands sink.old) (T.stands sink.new)
         (printed_of_by (form_text form) p.objects refs.now mode limit))
-        (NeededBy p (AskedByOut refs.now mode limit))
-        (nodes_around W.holds W.used source.old source.new) result }
+        (NeededBy p (AskedByOut refs.now mode limit)) result }
     ensures bounded { (p : Publication) → IsPublication p → W.under source.old p
         → AreThere p.objects refs.now → HasNoClash p (W.used source.new)
         → IsBounded (WorkOfOut (form_text form) p refs.now mode limit)
@@ -151,10 +149,10 @@ fn print_objects<W: Source, T: Sink>(
     ensures there { OnOk result (AreKnownThere (W.knows source.new) names.now) }
     ensures answer { (p : Publication) → IsPublication p → W.under source.old p
         → AreThere p.objects names.now
-        → Outcome cause_of_evaluation (λ _. HasWritten (T.stands sink.old) (T.stands sink.new)
+        → EndsTruly W.holds W.used W.under source.old source.new p
+        (λ _. HasWritten (T.stands sink.old) (T.stands sink.new)
         (lines_at form p.objects mode names.now))
-        (NeededBy p (From names.now IsObjectAsk))
-        (nodes_around W.holds W.used source.old source.new) result }
+        (NeededBy p (From names.now IsObjectAsk)) result }
     ensures bounded { (p : Publication) → IsPublication p → W.under source.old p
         → AreThere p.objects names.now → HasNoClash p (W.used source.new)
         → meter.new.spent ≤ meter.old.spent + length (lines_at form p.objects mode names.now) }
@@ -190,10 +188,9 @@ fn print_object<W: Source, T: Sink>(
     ensures there { OnOk result (IsKnownThere (W.knows source.new) name) }
     ensures answer { (p : Publication) → IsPublication p → W.under source.old p
         → IsThere p.objects name
-        → Outcome cause_of_evaluation
+        → EndsTruly W.holds W.used W.under source.old source.new p
         (λ _. HasWritten (T.stands sink.old) (T.stands sink.new) (line_at form p.objects mode name))
-        (NeededBy p (IsObjectAsk name))
-        (nodes_around W.holds W.used source.old source.new) result }
+        (NeededBy p (IsObjectAsk name)) result }
     ensures bounded { (p : Publication) → IsPublication p → W.under source.old p
         → IsThere p.objects name → HasNoClash p (W.used source.new)
         → meter.new.spent ≤ meter.old.spent + length (line_at form p.objects mode name) }

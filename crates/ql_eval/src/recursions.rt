@@ -1,20 +1,18 @@
 //! Recursions from a set, asked of a source.
 
 ghost use Rattle.std.specs.Prelude.{◌≡◌, ℕ, IfErr, IfOk, List, OnOk, length};
-ghost use Rattle.tree_node.specs.Outcomes.{Outcome};
 ghost use Rattle.osm_keys.specs.Publications.{IsPublication, Publication};
 ghost use Rattle.ql_syntax.specs.declared.recursion.Recursion.TheVariants as recursions;
 ghost use Rattle.ref_sets.specs.Adding.{Adds};
 ghost use Rattle.ref_sets.specs.Sets.{IsSetOf};
 ghost use Rattle.ql_meaning.specs.Values.{IsReached, IsRefOf};
 ghost use Rattle.ql_eval.specs.Asks.{AskedByRecursion};
-ghost use Rattle.ql_eval.specs.Faults.{cause_of_evaluation};
 ghost use Rattle.ql_eval.specs.Questions.{NeededBy};
 ghost use Rattle.ql_eval.specs.Work.{HasNoClash, OfSet, Steps};
 ghost use Rattle.ql_eval.specs.internal.Links.{AreThere, IsMemberAsk, IsMemberBelow};
 ghost use Rattle.ql_eval.specs.internal.Giving.{AllGiven};
 ghost use Rattle.ql_eval.specs.internal.Metering.{IsBounded};
-ghost use Rattle.tree_walk.specs.Uses.{nodes_around};
+ghost use Rattle.ql_eval.specs.internal.Truths.{EndsTruly};
 
 use crate::chains::{Direction, closure};
 use crate::fault::EvalFault;
@@ -43,10 +41,9 @@ pub(crate) fn recurse_once<W: Source>(
     ensures named { IfOk result (λ refs. AllGiven (W.gave source.new) refs.value) }
     ensures answer { (p : Publication) → IsPublication p → W.under source.old p
         → AreThere p.objects set.value
-        → Outcome cause_of_evaluation
+        → EndsTruly W.holds W.used W.under source.old source.new p
         (λ refs. IsSetOf refs.value (IsRefOf p.objects (IsReached p.objects how set.value)))
-        (NeededBy p (AskedByRecursion p.objects how set.value))
-        (nodes_around W.holds W.used source.old source.new) result }
+        (NeededBy p (AskedByRecursion p.objects how set.value)) result }
     ensures bounded { (p : Publication) → IsPublication p → W.under source.old p
         → AreThere p.objects set.value → HasNoClash p (W.used source.new)
         → IsBounded (OfSet (IsRefOf p.objects (IsReached p.objects how set.value))
@@ -76,10 +73,9 @@ fn recurse<W: Source>(
     ensures named { IfOk result (AllGiven (W.gave source.new)) }
     ensures answer { (p : Publication) → IsPublication p → W.under source.old p
         → AreThere p.objects set.now
-        → Outcome cause_of_evaluation
+        → EndsTruly W.holds W.used W.under source.old source.new p
         (λ refs. IsSetOf refs (IsRefOf p.objects (IsReached p.objects how set.now)))
-        (NeededBy p (AskedByRecursion p.objects how set.now))
-        (nodes_around W.holds W.used source.old source.new) result }
+        (NeededBy p (AskedByRecursion p.objects how set.now)) result }
     ensures bounded { (p : Publication) → IsPublication p → W.under source.old p
         → AreThere p.objects set.now → HasNoClash p (W.used source.new)
         → IsBounded (OfSet (IsRefOf p.objects (IsReached p.objects how set.now))
@@ -103,10 +99,9 @@ fn down<W: Source>(alloc: Global, source: &mut W, set: &RefSet) -> Result<RefSet
     ensures named { IfOk result (AllGiven (W.gave source.new)) }
     ensures answer { (p : Publication) → IsPublication p → W.under source.old p
         → AreThere p.objects set.now
-        → Outcome cause_of_evaluation
+        → EndsTruly W.holds W.used W.under source.old source.new p
         (λ refs. IsSetOf refs (IsRefOf p.objects (IsReached p.objects recursions.Down set.now)))
-        (NeededBy p (AskedByRecursion p.objects recursions.Down set.now))
-        (nodes_around W.holds W.used source.old source.new) result }
+        (NeededBy p (AskedByRecursion p.objects recursions.Down set.now)) result }
 {
     let ways = set.of_kinds(Kind::Way, Kind::Way);
     let relations = set.of_kinds(Kind::Rel, Kind::Rel);
@@ -131,10 +126,9 @@ fn add_members<W: Source>(
     ensures named { OnOk result (AllGiven (W.gave source.new) refs.new.items) }
     ensures answer { (p : Publication) → IsPublication p → W.under source.old p
         → AreThere p.objects relations.now
-        → Outcome cause_of_evaluation
+        → EndsTruly W.holds W.used W.under source.old source.new p
         (λ _. Adds refs.old.items refs.new.items (IsMemberBelow p.objects relations.now))
-        (NeededBy p (IsMemberAsk p.objects relations.now))
-        (nodes_around W.holds W.used source.old source.new) result }
+        (NeededBy p (IsMemberAsk p.objects relations.now)) result }
 {
     let members = members_there(alloc, source, relations, Kind::Node, Kind::Way)?;
     let ways = members.of_kinds(Kind::Way, Kind::Way);
@@ -153,10 +147,9 @@ fn up<W: Source>(alloc: Global, source: &mut W, set: &RefSet) -> Result<RefSet, 
     ensures named { IfOk result (AllGiven (W.gave source.new)) }
     ensures answer { (p : Publication) → IsPublication p → W.under source.old p
         → AreThere p.objects set.now
-        → Outcome cause_of_evaluation
+        → EndsTruly W.holds W.used W.under source.old source.new p
         (λ refs. IsSetOf refs (IsRefOf p.objects (IsReached p.objects recursions.Up set.now)))
-        (NeededBy p (AskedByRecursion p.objects recursions.Up set.now))
-        (nodes_around W.holds W.used source.old source.new) result }
+        (NeededBy p (AskedByRecursion p.objects recursions.Up set.now)) result }
 {
     let children = set.of_kinds(Kind::Node, Kind::Way);
     let first = referrers_of(alloc, source, children, None)?;

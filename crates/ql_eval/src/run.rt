@@ -2,14 +2,12 @@
 
 ghost use Rattle.std.specs.Prelude.{◌≡◌, ℕ, IfErr, IfOk, List, OnOk};
 ghost use Rattle.osm_model.specs.declared.reference.Ref.{Ref};
-ghost use Rattle.tree_node.specs.Outcomes.{Outcome};
 ghost use Rattle.osm_keys.specs.Publications.{IsPublication, Publication};
 ghost use Rattle.ql_syntax.specs.StatementViews.{statement_of, statements_of};
 ghost use Rattle.ql_meaning.specs.Meanings.{After, AfterAll, Telling};
 ghost use Rattle.ref_sets.specs.NamedSets.{lists_of};
 ghost use Rattle.ql_eval.specs.Absences.{HasIdOf, HaveIdOf};
 ghost use Rattle.ql_eval.specs.Asks.{AskedBy, AskedByAll};
-ghost use Rattle.ql_eval.specs.Faults.{cause_of_evaluation};
 ghost use Rattle.ql_eval.specs.Questions.{NeededBy};
 ghost use Rattle.ql_eval.specs.Work.{HasNoClash, WorkOf, WorkOfAll};
 ghost use Rattle.ql_eval.specs.internal.Lawful.{CanRun, CanRunAll};
@@ -17,7 +15,7 @@ ghost use Rattle.ql_eval.specs.internal.Links.{AreAllThere};
 ghost use Rattle.ql_eval.specs.internal.Giving.{AllGiven, AllSetsGiven};
 ghost use Rattle.ql_eval.specs.internal.Metering.{IsBounded, IsSpent, WorkOfLast};
 ghost use Rattle.ql_eval.specs.internal.Recalling.{AreAnswersGiven, AreAnswers};
-ghost use Rattle.tree_walk.specs.Uses.{nodes_around};
+ghost use Rattle.ql_eval.specs.internal.Truths.{EndsTruly};
 
 use crate::fault::EvalFault;
 use crate::meter::Meter;
@@ -55,10 +53,10 @@ pub(crate) fn run<'s, 'q, W: Source>(
         (p : Publication) → IsPublication p → W.under source.old p
         → AreAnswers p (W.used source.old) memo.old.remembered.items → AreAllThere p.objects env
         → CanRun (statement_of statement.now)
-        → Outcome cause_of_evaluation (λ _. After p.objects (statement_of statement.now) env next
+        → EndsTruly W.holds W.used W.under source.old source.new p
+        (λ _. After p.objects (statement_of statement.now) env next
         × AreAnswers p (W.used source.new) memo.new.remembered.items)
-        (NeededBy p (AskedBy p (statement_of statement.now) env))
-        (nodes_around W.holds W.used source.old source.new) result }
+        (NeededBy p (AskedBy p (statement_of statement.now) env)) result }
     ensures in_row { let env = lists_of sets.old.named.items in
         (tell : Telling) (p : Publication) → IsPublication p → W.under source.old p
         → AreAnswers p (W.used source.old) memo.old.remembered.items → AreAllThere p.objects env
@@ -145,11 +143,10 @@ fn run_all<'s, 'q, W: Source>(
         (p : Publication) → IsPublication p → W.under source.old p
         → AreAnswers p (W.used source.old) memo.old.remembered.items → AreAllThere p.objects env
         → CanRunAll (statements_of parts.now)
-        → Outcome cause_of_evaluation
+        → EndsTruly W.holds W.used W.under source.old source.new p
         (λ given. AfterAll p.objects (statements_of parts.now) env next given.items
         × AreAnswers p (W.used source.new) memo.new.remembered.items)
-        (NeededBy p (AskedByAll p (statements_of parts.now) env))
-        (nodes_around W.holds W.used source.old source.new) result }
+        (NeededBy p (AskedByAll p (statements_of parts.now) env)) result }
     ensures bounded { let env = lists_of sets.old.named.items in
         (tell : Telling) (p : Publication) → IsPublication p → W.under source.old p
         → AreAnswers p (W.used source.old) memo.old.remembered.items → AreAllThere p.objects env

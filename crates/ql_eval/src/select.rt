@@ -4,7 +4,6 @@ ghost use Rattle.std.specs.Prelude.{◌≡◌, ◌<◌, ℕ, IfErr, IfOk, List, 
 ghost use Rattle.std.specs.List.{AllByRecursion};
 ghost use Rattle.std.specs.Option.{ForSome};
 ghost use Rattle.osm_model.specs.declared.reference.Ref.{Ref};
-ghost use Rattle.tree_node.specs.Outcomes.{Outcome};
 ghost use Rattle.osm_keys.specs.Publications.{IsPublication, Publication};
 ghost use Rattle.ql_syntax.specs.LawfulQueries.{Allows};
 ghost use Rattle.ql_syntax.specs.StatementViews.{filters_of};
@@ -14,13 +13,12 @@ ghost use Rattle.ql_meaning.specs.Values.{IsRefOf, IsSelected};
 ghost use Rattle.ql_plan.specs.Plans.{filters_in, never, rank_of};
 ghost use Rattle.ql_eval.specs.Absences.{IsAskedById};
 ghost use Rattle.ql_eval.specs.Asks.{AskedByPlan, AskedBySelect};
-ghost use Rattle.ql_eval.specs.Faults.{cause_of_evaluation};
 ghost use Rattle.ql_eval.specs.Questions.{NeededBy};
 ghost use Rattle.ql_eval.specs.Work.{HasNoClash, WorkByPlan, WorkOfSelect};
 ghost use Rattle.ql_eval.specs.internal.Links.{AreAllThere};
 ghost use Rattle.ql_eval.specs.internal.Giving.{AllGiven, AllSetsGiven};
 ghost use Rattle.ql_eval.specs.internal.Metering.{IsBounded, IsSpent};
-ghost use Rattle.tree_walk.specs.Uses.{nodes_around};
+ghost use Rattle.ql_eval.specs.internal.Truths.{EndsTruly};
 
 use crate::apply_filters::apply_filters;
 use crate::candidates::find_candidates;
@@ -55,10 +53,10 @@ pub(crate) fn select<W: Source>(
     ensures answer { let env = lists_of sets.now.named.items in
         (p : Publication) → IsPublication p → W.under source.old p → AreAllThere p.objects env
         → AllByRecursion (Allows pick) (filters_of filters.now)
-        → Outcome cause_of_evaluation (λ refs. IsSetOf refs
+        → EndsTruly W.holds W.used W.under source.old source.new p
+        (λ refs. IsSetOf refs
         (IsRefOf p.objects (IsSelected p.objects env pick (filters_of filters.now))))
-        (NeededBy p (AskedBySelect p env pick (filters_of filters.now)))
-        (nodes_around W.holds W.used source.old source.new) result }
+        (NeededBy p (AskedBySelect p env pick (filters_of filters.now))) result }
     ensures bounded { let env = lists_of sets.now.named.items in
         (p : Publication) → IsPublication p → W.under source.old p → AreAllThere p.objects env
         → AllByRecursion (Allows pick) (filters_of filters.now) → HasNoClash p (W.used source.new)
@@ -95,10 +93,10 @@ fn answered<W: Source>(
     ensures answer { let env = lists_of sets.now.named.items in
         (p : Publication) → IsPublication p → W.under source.old p → AreAllThere p.objects env
         → AllByRecursion (Allows pick) (filters_in plan.now)
-        → Outcome cause_of_evaluation (λ refs. IsSetOf refs
+        → EndsTruly W.holds W.used W.under source.old source.new p
+        (λ refs. IsSetOf refs
         (IsRefOf p.objects (IsSelected p.objects env pick (filters_in plan.now))))
-        (NeededBy p (AskedByPlan p.objects env pick plan.now))
-        (nodes_around W.holds W.used source.old source.new) result }
+        (NeededBy p (AskedByPlan p.objects env pick plan.now)) result }
     ensures bounded { let env = lists_of sets.now.named.items in
         (p : Publication) → IsPublication p → W.under source.old p → AreAllThere p.objects env
         → AllByRecursion (Allows pick) (filters_in plan.now) → HasNoClash p (W.used source.new)

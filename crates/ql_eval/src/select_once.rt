@@ -3,7 +3,6 @@
 ghost use Rattle.std.specs.Prelude.{◌≡◌, ◌<◌, ℕ, IfErr, IfOk, List, OnOk};
 ghost use Rattle.std.specs.List.{AllByRecursion};
 ghost use Rattle.osm_model.specs.declared.reference.Ref.{Ref};
-ghost use Rattle.tree_node.specs.Outcomes.{Outcome};
 ghost use Rattle.osm_keys.specs.Publications.{IsPublication, Publication};
 ghost use Rattle.ql_syntax.specs.LawfulQueries.{Allows};
 ghost use Rattle.ql_syntax.specs.StatementViews.{filters_of};
@@ -12,14 +11,13 @@ ghost use Rattle.ref_sets.specs.NamedSets.{lists_of};
 ghost use Rattle.ql_meaning.specs.Values.{IsRefOf, IsSelected};
 ghost use Rattle.ql_eval.specs.Absences.{IsAskedById};
 ghost use Rattle.ql_eval.specs.Asks.{AskedBySelect};
-ghost use Rattle.ql_eval.specs.Faults.{cause_of_evaluation};
 ghost use Rattle.ql_eval.specs.Questions.{NeededBy};
 ghost use Rattle.ql_eval.specs.Work.{HasNoClash, WorkOfSelect};
 ghost use Rattle.ql_eval.specs.internal.Links.{AreAllThere};
 ghost use Rattle.ql_eval.specs.internal.Giving.{AllGiven, AllSetsGiven};
 ghost use Rattle.ql_eval.specs.internal.Metering.{IsBounded, IsSpent};
 ghost use Rattle.ql_eval.specs.internal.Recalling.{AreAnswersGiven, AreAnswers};
-ghost use Rattle.tree_walk.specs.Uses.{nodes_around};
+ghost use Rattle.ql_eval.specs.internal.Truths.{EndsTruly};
 
 use crate::fault::EvalFault;
 use crate::meter::Meter;
@@ -56,11 +54,11 @@ pub(crate) fn select_once<'s, 'q, W: Source>(
         (p : Publication) → IsPublication p → W.under source.old p
         → AreAnswers p (W.used source.old) memo.old.remembered.items → AreAllThere p.objects env
         → AllByRecursion (Allows pick) (filters_of filters.now)
-        → Outcome cause_of_evaluation (λ refs. IsSetOf refs.value
+        → EndsTruly W.holds W.used W.under source.old source.new p
+        (λ refs. IsSetOf refs.value
         (IsRefOf p.objects (IsSelected p.objects env pick (filters_of filters.now)))
         × AreAnswers p (W.used source.new) memo.new.remembered.items)
-        (NeededBy p (AskedBySelect p env pick (filters_of filters.now)))
-        (nodes_around W.holds W.used source.old source.new) result }
+        (NeededBy p (AskedBySelect p env pick (filters_of filters.now))) result }
     ensures bounded { let env = lists_of sets.now.named.items in
         (p : Publication) → IsPublication p → W.under source.old p
         → AreAnswers p (W.used source.old) memo.old.remembered.items → AreAllThere p.objects env

@@ -4,7 +4,6 @@ ghost use Rattle.std.specs.Prelude.{◌≡◌, ℕ, List};
 ghost use Rattle.tree_node.specs.Shelves.{Stays};
 ghost use Rattle.tree_walk.specs.WalksGiven.{HasGiven};
 ghost use Rattle.osm_keys.specs.Manifests.{top_among};
-ghost use Rattle.osm_keys.specs.Publications.{Publication};
 ghost use Rattle.ql_eval.specs.Openings.{IsUnder};
 ghost use Rattle.ql_eval.specs.internal.Objects.{Remembers};
 
@@ -56,7 +55,6 @@ impl<'s, 'q, 'a, S: Shelf<'a>> Source for ShelfSource<'s, 'q, 'a, S> {
     ghost use Rattle.ql_syntax.specs.StatementViews.{statements_of};
     ghost use Rattle.ql_syntax.specs.declared.statement.Stmt.{Stmt};
     ghost use Rattle.std.specs.Borrow.{Bor};
-    ghost use Rattle.osm_keys.specs.Publications.{Publication};
     ghost use Rattle.ql_eval.specs.Openings.{IsUnder};
     ghost use Rattle.ql_eval.specs.internal.Objects.{AreAbsent, AreRead, IsGivenOrThere, IsToldAbsent, MayBeAbsentNow, Remembers};
     ghost use Rattle.ql_eval.specs.internal.Remembering.{AreGiven, AreRecalled, IsRemembered, Recalls};
@@ -69,6 +67,8 @@ impl<'s, 'q, 'a, S: Shelf<'a>> Source for ShelfSource<'s, 'q, 'a, S> {
     ghost is_fixed = { S.is_fixed };
 
     ghost used = { λ o. S.used o.shelf.now };
+
+    ghost reads = { λ o p. IsUnder p o.manifest };
 
     ghost under = { λ o p. IsUnder p o.manifest × Remembers p (S.used o.shelf.now) o.objects.now
         × AreRecalled p (S.used o.shelf.now) o.memo.now.remembered.items };
@@ -90,19 +90,12 @@ impl<'s, 'q, 'a, S: Shelf<'a>> Source for ShelfSource<'s, 'q, 'a, S> {
     ghost later = { λ o n. (o.shelf.ghost_name ≡ n.shelf.ghost_name) × (o.manifest ≡ n.manifest)
         × Stays S.is_fixed (S.holds o.shelf.now) (S.holds n.shelf.now)
         × ((bytes : List ℕ) → S.used o.shelf.now bytes → S.used n.shelf.now bytes)
-        × ((p : Publication) → IsUnder p o.manifest
-        → Remembers p (S.used o.shelf.now) o.objects.now
-        → Remembers p (S.used n.shelf.now) n.objects.now)
         × ((r : Ref) (object : Option Element) → get ref_cmp o.objects.now r ≡ Some object
         → get ref_cmp n.objects.now r ≡ Some object)
         × (AreAbsent (S.used o.shelf.now) o.manifest o.objects.now
         → AreAbsent (S.used n.shelf.now) n.manifest n.objects.now)
         × ((r : Ref) → IsGivenOrThere (S.used o.shelf.now) o.manifest o.objects.now r
         → IsGivenOrThere (S.used n.shelf.now) n.manifest n.objects.now r)
-        × ((p : Publication) → IsUnder p o.manifest
-        → Remembers p (S.used o.shelf.now) o.objects.now
-        → AreRecalled p (S.used o.shelf.now) o.memo.now.remembered.items
-        → AreRecalled p (S.used n.shelf.now) n.memo.now.remembered.items)
         × ((r : Ref) → IsRemembered o.memo.now.remembered.items r
         → IsRemembered n.memo.now.remembered.items r)
         × (AreGiven (IsGivenOrThere (S.used o.shelf.now) o.manifest o.objects.now)
@@ -116,39 +109,39 @@ impl<'s, 'q, 'a, S: Shelf<'a>> Source for ShelfSource<'s, 'q, 'a, S> {
     ghost walked = { λ o n. HasGiven (top_among n.manifest.tops) (IsSound (MayBeAbsentNow (statements_of n.statements.now) n.objects.now)) (record { held = S.holds n.shelf.now; before = S.used o.shelf.now; after = S.used n.shelf.now })
         o.tally.calls n.tally.calls o.tally.fetches n.tally.fetches };
 
-    ghost itself = { λ o. (refl, refl, (λ x. ((λ _ has. has), (λ has. has))), (λ x has. has), (λ p under known. known), (λ r object known. known), (λ absent. absent), (λ r given. given), (λ p under known recalled. recalled), (λ r is. is), (λ given. given), refl, (λ read. read)) };
+    ghost itself = { λ o. (refl, refl, (λ x. ((λ _ has. has), (λ has. has))), (λ x has. has), (λ r object known. known), (λ absent. absent), (λ r given. given), (λ r is. is), (λ given. given), refl, (λ read. read)) };
 
     ghost chained = { λ o n m first second. (
       first.0 ∙ second.0,
       first.1 ∙ second.1,
       (λ x. ((λ e has. (first.2 x).0 e ((second.2 x).0 e has)), (λ has. (second.2 x).1 ((first.2 x).1 has)))),
       (λ x has. second.3 x (first.3 x has)),
-      (λ p under known. second.4 p (subst (λ (m : Manifest). IsUnder p m) first.1 under) (first.4 p under known)),
-      (λ r object known. second.5 r object (first.5 r object known)),
-      (λ absent. second.6 (first.6 absent)),
-      (λ r given. second.7 r (first.7 r given)),
-      (λ p under known recalled. second.8 p (subst (λ (m : Manifest). IsUnder p m) first.1 under) (first.4 p under known) (first.8 p under known recalled)),
-      (λ r is. second.9 r (first.9 r is)),
-      (λ given. second.10 (first.10 given)),
-      first.11 ∙ second.11,
-      (λ read. second.12 (first.12 read)),
+      (λ r object known. second.4 r object (first.4 r object known)),
+      (λ absent. second.5 (first.5 absent)),
+      (λ r given. second.6 r (first.6 r given)),
+      (λ r is. second.7 r (first.7 r is)),
+      (λ given. second.8 (first.8 given)),
+      first.9 ∙ second.9,
+      (λ read. second.10 (first.10 read)),
     ) };
 
     ghost stays = { λ o n later. later.2 };
 
     ghost grows = { λ o n bytes later has. later.3 bytes has };
 
-    ghost same_under = { λ o n p later under. (subst (λ (m : Manifest). IsUnder p m) later.1 under.0, later.4 p under.0 under.1, later.8 p under.0 under.1 under.2) };
+    ghost under_reads = { λ o p under. under.0 };
 
-    ghost same_known = { λ o n r object later known. later.5 r object known };
+    ghost still_reads = { λ o n p later reads. subst (λ (m : Manifest). IsUnder p m) later.1 reads };
+
+    ghost same_known = { λ o n r object later known. later.4 r object known };
 
     ghost out_of_memory = { λ o absent kept. tt };
 
-    ghost same_gave = { λ o n r later given. elim given [ inl entry ↦ inl (later.7 r entry) | inr kept ↦ inr (later.9 r kept) ] };
+    ghost same_gave = { λ o n r later given. elim given [ inl entry ↦ inl (later.6 r entry) | inr kept ↦ inr (later.7 r kept) ] };
 
     ghost still_may = { λ o n r later may. elim may [
-      | inl asked ↦ inl (subst (λ (s : Bor (List Stmt)). HaveIdOf (statements_of s.now) r) later.11 asked)
-      | inr listed ↦ inr (listed.0, listed.1, later.5 listed.0 (Some listed.1) listed.2, listed.3)
+      | inl asked ↦ inl (subst (λ (s : Bor (List Stmt)). HaveIdOf (statements_of s.now) r) later.9 asked)
+      | inr listed ↦ inr (listed.0, listed.1, later.4 listed.0 (Some listed.1) listed.2, listed.3)
     ] };
 
     ghost listed_may = { λ o name r object known lists. inr (name, object, known, lists) };
@@ -170,8 +163,8 @@ impl<'s, 'q, 'a, S: Shelf<'a>> Source for ShelfSource<'s, 'q, 'a, S> {
         (λ walk sound. record {
           formed = sound.formed;
           absent = λ r fits tree range none. elim (sound.absent r fits tree range none) [
-            | inl asked ↦ inl (subst (λ (s : Bor (List Stmt)). HaveIdOf (statements_of s.now) r) second.11 asked)
-            | inr listed ↦ inr (listed.0, listed.1, second.5 listed.0 (Some listed.1) listed.2, listed.3)
+            | inl asked ↦ inl (subst (λ (s : Bor (List Stmt)). HaveIdOf (statements_of s.now) r) second.9 asked)
+            | inr listed ↦ inr (listed.0, listed.1, second.4 listed.0 (Some listed.1) listed.2, listed.3)
           ];
         })
         (subst (λ (found : Manifest). HasGiven (top_among found.tops) (IsSound (MayBeAbsentNow (statements_of n.statements.now) n.objects.now))

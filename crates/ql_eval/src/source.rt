@@ -1,6 +1,6 @@
 //! What an evaluation asks.
 
-ghost use Rattle.std.specs.Prelude.{Bool, ◌≡◌, ◌↔◌, ℕ, IfErr, IfOk, IfSome, List, None, OnOk, Option, Some};
+ghost use Rattle.std.specs.Prelude.{Bool, ◌≡◌, ℕ, IfErr, IfOk, IfSome, List, None, OnOk, Option, Some};
 ghost use Rattle.std.specs.Option.{option_copied};
 ghost use Rattle.osm_model.specs.Elements.{Element};
 ghost use Rattle.osm_model.specs.Membership.{BodyLists};
@@ -24,6 +24,7 @@ ghost use Rattle.ql_syntax.specs.declared.recursion.Recursion.{Recursion};
 ghost use Rattle.ql_eval.specs.internal.Giving.{AllGiven};
 ghost use Rattle.ql_eval.specs.internal.Links.{AreThere};
 ghost use Rattle.ql_eval.specs.internal.Remembering.{IsRecalled};
+ghost use Rattle.ql_eval.specs.internal.Truths.{EndsTruly, StaysTrue};
 ghost use Rattle.ql_eval.specs.internal.Views.{question_of};
 ghost use Rattle.tree_walk.specs.Uses.{nodes_around};
 
@@ -48,7 +49,11 @@ pub(crate) trait Source {
     /// Those that were used.
     ghost used: { Self → List ℕ → Type 0 };
 
-    /// The manifest is that of the publication, and what is remembered of its objects is true.
+    /// The manifest is that of the publication.
+    ghost reads: { Self → Publication → Type 0 };
+
+    /// And what is remembered of its objects is true. A later moment alone doesn't keep it, since a call may learn from nodes
+    /// that clash: each call says what becomes of it.
     ghost under: { Self → Publication → Type 0 };
 
     /// The same source at a later moment.
@@ -77,6 +82,7 @@ pub(crate) trait Source {
     fn announce(&mut self, name: Ref)
         ensures later { later self.old self.new }
         ensures walked { walked self.old self.new }
+        ensures truly { StaysTrue under self.old self.new }
         ensures used { SameNodes (used self.old) (used self.new) };
 
     /// Looks up the object with this reference, unless that was done before. Afterwards it is known. A walk counts as one
@@ -88,9 +94,9 @@ pub(crate) trait Source {
         ensures told { IfErr result (tells self.new) }
         ensures known { OnOk result ((object : Option Element) × knows self.new name object) }
         ensures answer { (p : Publication) → IsPublication p → under self.old p
-            → Outcome cause_of_evaluation (λ _. knows self.new name (object_at p.objects name))
-            (NeedsAsk p (object_ask name))
-            (nodes_around holds used self.old self.new) result };
+            → EndsTruly holds used under self.old self.new p
+            (λ _. knows self.new name (object_at p.objects name))
+            (NeedsAsk p (object_ask name)) result };
 
     /// The object with a reference that was looked up, if it is there.
     fn known(&self, name: Ref) -> Option<&Object>
@@ -105,17 +111,17 @@ pub(crate) trait Source {
         ensures named { IfOk result (AllGiven (gave self.new)) }
         ensures answer { (p : Publication) → IsPublication p → under self.old p
             → HasNoNulIn (question_of question.now)
-            → Outcome cause_of_evaluation
+            → EndsTruly holds used under self.old self.new p
             (λ names. IsSetOf names (IsRefOf p.objects (Answers (question_of question.now))))
-            (NeedsAsk p (names_ask (question_of question.now)))
-            (nodes_around holds used self.old self.new) result };
+            (NeedsAsk p (names_ask (question_of question.now))) result };
 
     /// The number of entries that a question's range has.
     fn count(&mut self, question: &Question<'_>) -> Result<u64, EvalFault>
         ensures later { later self.old self.new }
         ensures walked { OnOk result (walked self.old self.new) }
         ensures told { IfErr result (tells self.new) }
-        ensures answer { (p : Publication) → IsPublication p → under self.old p
+        ensures truly { StaysTrue under self.old self.new }
+        ensures answer { (p : Publication) → IsPublication p → reads self.old p
             → Outcome cause_of_evaluation (IsCountOf p (question_of question.now))
             (NeedsAsk p (count_ask (question_of question.now)))
             (nodes_around holds used self.old self.new) result };
@@ -128,11 +134,10 @@ pub(crate) trait Source {
         ensures told { IfErr result (tells self.new) }
         ensures named { IfOk result (λ found. AllGiven (gave self.new) found.nodes) }
         ensures answer { (p : Publication) → IsPublication p → under self.old p
-            → Outcome cause_of_evaluation
+            → EndsTruly holds used under self.old self.new p
             (λ found. IsSetOf found.nodes (IsRefOf p.objects (IsInBox area.now)))
-            (NeededBy p (IsAskedInBox area.now))
-            (nodes_around holds used self.old self.new) result }
-        ensures read { (p : Publication) → IsPublication p → under self.old p
+            (NeededBy p (IsAskedInBox area.now)) result }
+        ensures read { (p : Publication) → IsPublication p → reads self.old p
             → Outcome cause_of_evaluation
             (λ found. IsSizeOf (IsRefOf p.objects (IsInCellsOf area.now)) found.read)
             (NeededBy p (IsAskedInBox area.now))
@@ -143,7 +148,8 @@ pub(crate) trait Source {
         ensures later { later self.old self.new }
         ensures walked { OnOk result (walked self.old self.new) }
         ensures told { IfErr result (tells self.new) }
-        ensures answer { (p : Publication) → IsPublication p → under self.old p
+        ensures truly { StaysTrue under self.old self.new }
+        ensures answer { (p : Publication) → IsPublication p → reads self.old p
             → Within cause_of_evaluation
             (IsWithinSet (IsRefOf p.objects (IsInCellsOf area.now)))
             (NeededBy p (IsAskedInBox area.now))
@@ -161,14 +167,13 @@ pub(crate) trait Source {
         refs: Rc<RefSet>,
     ) -> Result<(), AllocError>
         requires { AllGiven (gave self.old) refs.value }
-        // What is remembered is true of what was under the source when the recursion began.
-        ensures later { (s : Self) → later s self.old
-            → ((p : Publication) → IsPublication p → under s p → AreThere p.objects set.value
+        ensures later { later self.old self.new }
+        ensures walked { walked self.old self.new }
+        ensures truly { (p : Publication) → IsPublication p → under self.old p
+            → (AreThere p.objects set.value
             → IsRecalled p (used self.old) how set.value refs.value)
-            → later s self.new }
-        ensures walked { (s : Self) → walked s self.old → walked s self.new }
-        ensures given { (r : Ref) → gave self.old r → gave self.new r }
-        ensures same { (bytes : List ℕ) → used self.new bytes ↔ used self.old bytes };
+            → under self.new p }
+        ensures used { SameNodes (used self.old) (used self.new) };
 
     ghost itself: { (s : Self) → later s s };
 
@@ -178,7 +183,9 @@ pub(crate) trait Source {
 
     ghost grows: { (s t : Self) (bytes : List ℕ) → later s t → used s bytes → used t bytes };
 
-    ghost same_under: { (s t : Self) (p : Publication) → later s t → under s p → under t p };
+    ghost under_reads: { (s : Self) (p : Publication) → under s p → reads s p };
+
+    ghost still_reads: { (s t : Self) (p : Publication) → later s t → reads s p → reads t p };
 
     ghost same_known: { (s t : Self) (r : Ref) (object : Option Element) → later s t
         → knows s r object → knows t r object };

@@ -30,14 +30,14 @@ abbrev KindsCounted : Publication → Option Kind → ShelfUse → Result ℕ Ev
 KindsCounted p kind shelf result = Within cause_of_evaluation (IsWithinSet (From (kinds_of kind) (IsOfThisKind p.objects))) (NeededBy p (From (kinds_of kind) IsKindAsk)) shelf result
 
 pub returns-in-None-clause-answer : goal.returns-in-None-clause-answer
-returns-in-None-clause-answer g c = λ p env is under lawful.
+returns-in-None-clause-answer g c = λ p env is reads lawful.
     let shelf = uses (g.W.Source.holds c.count_kinds.new.source) (g.W.Source.used c.args.source.now) (g.W.Source.used c.count_kinds.new.source) in
     subst (λ (b : Option (Bor Filter)). CountedWell p env c.args.pick (option_map (λ f. filter_of f.now) b) shelf c.count_kinds.result) (sym c.in-None.is)
     (within_same (λ x needs. needs) (λ n. candidates_part n (kinds_selected p.objects env c.args.pick))
-    (subst (λ (kind : Option Kind). KindsCounted p kind shelf c.count_kinds.result) c.kind_of.ensures (c.count_kinds.ensures.answer p is under)))
+    (subst (λ (kind : Option Kind). KindsCounted p kind shelf c.count_kinds.result) c.kind_of.ensures (c.count_kinds.ensures.answer p is reads)))
 
 pub returns-in-Some-clause-answer : goal.returns-in-Some-clause-answer
-returns-in-Some-clause-answer g c = λ p env is under lawful.
+returns-in-Some-clause-answer g c = λ p env is reads lawful.
     let shelf = uses (g.W.Source.holds c.count_kept.new.source) (g.W.Source.used c.args.source.now) (g.W.Source.used c.count_kept.new.source) in
     subst (λ (b : Option (Bor Filter)). CountedWell p env c.args.pick (option_map (λ f. filter_of f.now) b) shelf c.count_kept.result) (sym c.in-Some.is)
-    (c.count_kept.ensures.answer p env is under (subst (λ (b : Option (Bor Filter)). ForSome (option_map (λ f. filter_of f.now) b) (Allows c.args.pick)) c.in-Some.is lawful _ refl))
+    (c.count_kept.ensures.answer p env is reads (subst (λ (b : Option (Bor Filter)). ForSome (option_map (λ f. filter_of f.now) b) (Allows c.args.pick)) c.in-Some.is lawful _ refl))

@@ -26,7 +26,7 @@ abbrev CountedWell : Publication → Env → Pick → Filter → ShelfUse → Re
 CountedWell p env pick filter shelf result = affording.Within cause_of_evaluation (IsPartOf (WorkOfFinding p env pick (Some filter))) (NeededBy p (AskedByBase p.objects env (kind_picked pick) (Some filter))) shelf result
 
 pub returns-in-KeyIs-clause-answer : goal.returns-in-KeyIs-clause-answer
-returns-in-KeyIs-clause-answer g c = λ p env is under allowed.
+returns-in-KeyIs-clause-answer g c = λ p env is reads allowed.
     let pick = c.args.pick in
     let key = c.as_bytes.result.now in
     let value = c.as_bytes-in-KeyIs.result.now in
@@ -36,10 +36,10 @@ returns-in-KeyIs-clause-answer g c = λ p env is under allowed.
     (within_from
     (λ x needs. record { ask = names_ask (WithTag key value (kind_picked pick)); asked = refl; needs = counted_needs p Tags (tag_range key value (kind_picked pick)) x (subst (λ (k : Option Kind). NeedsAsk p (count_ask (WithTag key value k)) x) c.kind_of.ensures needs) })
     (λ n counted. candidates_part n (tag_selected p.objects env pick key value) (tag_fits p is key value (kind_picked pick) n clean.0 clean.1 (subst (λ (k : Option Kind). IsCountOf p (WithTag key value k) n) c.kind_of.ensures counted)))
-    (c.count.ensures.answer p is under))
+    (c.count.ensures.answer p is reads))
 
 pub returns-in-HasKey-clause-answer : goal.returns-in-HasKey-clause-answer
-returns-in-HasKey-clause-answer g c = λ p env is under allowed.
+returns-in-HasKey-clause-answer g c = λ p env is reads allowed.
     let pick = c.args.pick in
     let key = c.as_bytes-in-HasKey.result.now in
     let filter : filter_of c.args.filter.now ≡ HasKey key = ap filter_of c.in-HasKey.is ∙ ap (λ (k : List ℕ). HasKey k) (sym c.as_bytes-in-HasKey.ensures) in
@@ -48,13 +48,13 @@ returns-in-HasKey-clause-answer g c = λ p env is under allowed.
     (within_from
     (λ x needs. record { ask = names_ask (WithKey key); asked = refl; needs = counted_needs p Tags (tag_key_range key) x needs })
     (λ n counted. base_part n (key_fits p is key n clean counted))
-    (c.count-in-HasKey.ensures.answer p is under))
+    (c.count-in-HasKey.ensures.answer p is reads))
 
 pub returns-in-Within-clause-answer : goal.returns-in-Within-clause-answer
-returns-in-Within-clause-answer g c = λ p env is under allowed.
+returns-in-Within-clause-answer g c = λ p env is reads allowed.
     let filter : filter_of c.args.filter.now ≡ Within c.deref.result.now = ap filter_of c.in-Within.is ∙ ap (λ (a : ExactBox). Within a) (sym c.deref.ensures) in
     subst (λ (f : Filter). CountedWell p env c.args.pick f (uses (g.W.Source.holds c.count_in.new.self) (g.W.Source.used c.args.source.now) (g.W.Source.used c.count_in.new.self)) c.count_in.result) (sym filter)
-    (within_same (λ x needs. needs) (λ n. base_part n) (c.count_in.ensures.answer p is under))
+    (within_same (λ x needs. needs) (λ n. base_part n) (c.count_in.ensures.answer p is reads))
 
 pub returns-in_default-clause-answer : goal.returns-in_default-clause-answer
-returns-in_default-clause-answer g c = λ p env is under allowed. within_starts (no_part _)
+returns-in_default-clause-answer g c = λ p env is reads allowed. within_starts (no_part _)

@@ -14,7 +14,7 @@ abbrev pub invariant-loop-one : goal.invariant-loop-one
 invariant-loop-one g l = record {
   later : g.W.Source.later l.fn.source l.source;
   walked : g.W.Source.walked l.fn.source l.source;
-  answer : (p : Publication) (is : IsPublication p) → g.W.Source.under l.fn.source p
+  answer : (p : Publication) (is : IsPublication p) → g.W.Source.reads l.fn.source p
       → Within cause_of_evaluation (λ (_ : Unit {0}). HasSoMany p Objects (From (take l.one-index l.one-items) (IsObjectOf p is)) l.number)
       (NeededBy p (From l.one-items IsKindAsk)) (uses (g.W.Source.holds l.source) (g.W.Source.used l.fn.source) (g.W.Source.used l.source)) (Ok tt);
 }

@@ -19,7 +19,7 @@ returns-in_err-answer_statement-clause-answer g c = λ p is under query.
     answered_stops (form_text c.args.form) p c.args.statements.now c.loop-statement.statement-index c.statement-item.result c.loop-statement-test.true c.statement-item.is
     (lists_of c.loop-statement.sets.named.items) (lists_of c.answer_statement.new.sets.named.items) _ c.from_residual.ensures.1 (λ x. g.met.W.Source.grows _ _ x c.answer_statement.ensures.later)
     (c.loop-statement.invariant.answer p is under query)
-    (λ there known. c.in_err-answer_statement.ensures.answer p is (g.met.W.Source.same_under _ _ p c.loop-statement.invariant.later under) known there
+    (λ there known under_now. c.in_err-answer_statement.ensures.answer p is under_now known there
     (one_top c.args.statements.now c.loop-statement.statement-index c.statement-item.result c.loop-statement-test.true c.statement-item.is query))
 
 pub loop-statement-preserved : goal.loop-statement-preserved
@@ -34,7 +34,7 @@ loop-statement-preserved g c = record {
       answered_next (form_text c.args.form) p c.args.statements.now c.loop-statement.statement-index c.statement-item.result c.loop-statement-test.true c.statement-item.is
       (lists_of c.loop-statement.sets.named.items) (lists_of c.answer_statement.new.sets.named.items) (λ x. g.met.W.Source.grows _ _ x c.answer_statement.ensures.later)
       (c.loop-statement.invariant.answer p is under query)
-      (λ there known. c.in_ok-answer_statement.ensures.answer p is (g.met.W.Source.same_under _ _ p c.loop-statement.invariant.later under) known there
+      (λ there known under_now. c.in_ok-answer_statement.ensures.answer p is under_now known there
       (one_top c.args.statements.now c.loop-statement.statement-index c.statement-item.result c.loop-statement-test.true c.statement-item.is query));
   going = λ p is under query clear.
       let mid = lists_of c.loop-statement.sets.named.items in
@@ -45,10 +45,10 @@ loop-statement-preserved g c = record {
       let going = going_at (form_text c.args.form) p all nothing_named k mid _ _ one c.loop-statement-test.true c.statement-item.is (c.loop-statement.invariant.going p is under query early) in
       let so = found_well (λ x used. used) early (c.loop-statement.invariant.answer p is under query) in
       let there = all_sets_there (form_text c.args.form) p all k one c.loop-statement-test.true c.statement-item.is mid so.0 so.1 in
-      let under_now = g.met.W.Source.same_under _ _ p c.loop-statement.invariant.later under in
+      let under_now = so.4 in
       let top = one_top all k one c.loop-statement-test.true c.statement-item.is query in
       let first = c.in_ok-answer_statement.ensures.bounded p is under_now so.3 there top clear in
-      let after = (found_well (λ x used. used) clear (c.in_ok-answer_statement.ensures.answer p is under_now so.3 there top)).0 in
+      let after = (found_well (λ x used. used) clear (c.in_ok-answer_statement.ensures.answer p is under_now so.3 there top)).0.0 in
       let next = going_next (form_text c.args.form) p (statements_of all) nothing_named (statement_of one) (statements_of (drop (k + 1) all)) mid _ _ _ going (lists_of c.answer_statement.new.sets.named.items) c.written_by.result.now _ after c.written_by.ensures c.charge_run.ensures first (c.in_ok-answer_statement.ensures.spent p is under_now so.3 there top clear) in
       next;
 }
@@ -65,7 +65,7 @@ loop-statement-init g c = record {
   wrote = ([], written_none);
   named = nothing_given _ (lists_of c.new-sets.result.named.items) c.new-sets.ensures;
   recalled_named = none_to_give _ c.new-memo.result.remembered.items c.new-memo.ensures;
-  answer = λ p is under query. answered_none (form_text c.args.form) p c.args.statements.now c.new-sets.ensures (none_recalled p _ c.new-memo.result.remembered.items c.new-memo.ensures);
+  answer = λ p is under query. answered_none (form_text c.args.form) p c.args.statements.now c.new-sets.ensures (none_recalled p _ c.new-memo.result.remembered.items c.new-memo.ensures) under;
   going = λ p is under query clear.
       let all = statements_of c.args.statements.now in
       subst (λ (env : Env). IsGoing (form_text c.args.form) p all nothing_named all env c.args.meter.now.spent c.args.meter.now.spent) (sym c.new-sets.ensures) (going_start (form_text c.args.form) p all nothing_named _);
@@ -81,7 +81,7 @@ returns-in_err-answer_statement-clause-bounded g c = λ p is under query clear.
     let going = going_at (form_text c.args.form) p all nothing_named k mid _ _ one c.loop-statement-test.true c.statement-item.is (c.loop-statement.invariant.going p is under query early) in
     let so = found_well (λ x used. used) early (c.loop-statement.invariant.answer p is under query) in
     let there = all_sets_there (form_text c.args.form) p all k one c.loop-statement-test.true c.statement-item.is mid so.0 so.1 in
-    let under_now = g.met.W.Source.same_under _ _ p c.loop-statement.invariant.later under in
+    let under_now = so.4 in
     let top = one_top all k one c.loop-statement-test.true c.statement-item.is query in
     let first = c.answer_statement.ensures.in_row p is under_now so.3 there top clear in
     going_stops (form_text c.args.form) p (statements_of all) nothing_named (statement_of one) (statements_of (drop (k + 1) all)) mid _ _ _ going first
@@ -96,10 +96,10 @@ returns-in_err-charge_run-clause-bounded g c = λ p is under query clear.
     let going = going_at (form_text c.args.form) p all nothing_named k mid _ _ one c.loop-statement-test.true c.statement-item.is (c.loop-statement.invariant.going p is under query early) in
     let so = found_well (λ x used. used) early (c.loop-statement.invariant.answer p is under query) in
     let there = all_sets_there (form_text c.args.form) p all k one c.loop-statement-test.true c.statement-item.is mid so.0 so.1 in
-    let under_now = g.met.W.Source.same_under _ _ p c.loop-statement.invariant.later under in
+    let under_now = so.4 in
     let top = one_top all k one c.loop-statement-test.true c.statement-item.is query in
     let first = c.in_ok-answer_statement.ensures.bounded p is under_now so.3 there top clear in
-    let after = (found_well (λ x used. used) clear (c.in_ok-answer_statement.ensures.answer p is under_now so.3 there top)).0 in
+    let after = (found_well (λ x used. used) clear (c.in_ok-answer_statement.ensures.answer p is under_now so.3 there top)).0.0 in
     let next = going_next (form_text c.args.form) p (statements_of all) nothing_named (statement_of one) (statements_of (drop (k + 1) all)) mid _ _ _ going (lists_of c.answer_statement.new.sets.named.items) c.written_by.result.now _ after c.written_by.ensures c.charge_run.ensures first (c.in_ok-answer_statement.ensures.spent p is under_now so.3 there top clear) in
     going_bounded (form_text c.args.form) p (statements_of all) nothing_named (statements_of (drop (k + 1) all)) (lists_of c.answer_statement.new.sets.named.items) _ _ next
 

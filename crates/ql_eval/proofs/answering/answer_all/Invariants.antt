@@ -22,7 +22,7 @@ invariant-loop-statement g l = record {
   named : AllSetsGiven (g.W.Source.gave l.source) (lists_of l.sets.named.items);
   recalled_named : AreAnswersGiven (g.W.Source.gave l.source) l.memo.remembered.items;
   answer : (p : Publication) → IsPublication p → g.W.Source.under l.fn.source p → IsQuery (statements_of l.statements)
-      → HasAnswered (form_text l.form) p l.statements l.statement-index (lists_of l.sets.named.items) (AreAnswers p (g.W.Source.used l.source) l.memo.remembered.items) (g.T.Sink.stands l.fn.sink) (g.T.Sink.stands l.sink)
+      → HasAnswered (form_text l.form) p l.statements l.statement-index (lists_of l.sets.named.items) (AreAnswers p (g.W.Source.used l.source) l.memo.remembered.items) (g.W.Source.under l.source p) (g.T.Sink.stands l.fn.sink) (g.T.Sink.stands l.sink)
       (uses (g.W.Source.holds l.source) (g.W.Source.used l.fn.source) (g.W.Source.used l.source));
   going : (p : Publication) → IsPublication p → g.W.Source.under l.fn.source p → IsQuery (statements_of l.statements) → HasNoClash p (g.W.Source.used l.source)
       → IsGoing (form_text l.form) p (statements_of l.statements) nothing_named (statements_of (drop l.statement-index l.statements)) (lists_of l.sets.named.items) l.fn.meter.spent l.meter.spent;

@@ -1,6 +1,5 @@
 use Rattle.std.proofs.Common.{◌≡◌, inl, inr, ℕ, List, [], ap, refl, subst, sym}
 use Rattle.osm_model.specs.declared.reference.Ref.{Ref}
-use Rattle.tree_node.proofs.shared.OutcomeLaws.{outcome_same}
 use Rattle.ql_syntax.specs.StatementViews.{statement_of}
 use Rattle.ql_syntax.specs.declared.statement.Stmt.{Stmt}
 use Rattle.osm_forms.specs.Forms.{form_text}
@@ -21,6 +20,7 @@ use Rattle.ql_eval.specs.internal.Metering.{IsBounded, IsSpent}
 use Rattle.ref_sets.proofs.shared.Results.{on_ok_as}
 use Rattle.ql_eval.proofs.MeterLemmas.{bounded_as, spent_as, stops_as}
 use Rattle.ql_eval.proofs.RecallLemmas.{given_later, recalled_later}
+use Rattle.ql_eval.proofs.TruthLemmas.{truly_same}
 use Rattle.ql_eval.proofs.answering.answer_statement.Goals as goal
 
 pub returns-in-Print-clause-answer : goal.returns-in-Print-clause-answer
@@ -29,7 +29,7 @@ returns-in-Print-clause-answer g c = λ p is under known there top.
     let out = c.in-Print.out in
     let refs : c.get.result.now ≡ lists_of c.args.sets.now.named.items c.in-Print.out.from =
     subst (λ (name : List ℕ). c.get.result.now ≡ lists_of c.args.sets.now.named.items name) c.as_bytes.ensures c.get.ensures in
-    outcome_same
+    truly_same
     (needed_as (λ ask asked. subst (λ (s : Stmt). AskedBy p (statement_of s) env ask) (sym c.in-Print.is) (subst (λ (rs : List Ref). AskedByOut rs out.mode out.limit ask) refs asked)))
     (λ value so. needed_as (λ ask asked. subst (λ (rs : List Ref). AskedByOut rs out.mode out.limit ask) (sym refs) (subst (λ (s : Stmt). AskedBy p (statement_of s) env ask) c.in-Print.is asked)))
     (λ value so. (
@@ -53,7 +53,7 @@ returns-in_default g c = record {
       let statement = statement_of c.args.statement.now in
       let env = lists_of c.args.sets.now.named.items in
       let can : CanRun statement = elim (top_lawful statement top) [ inl can ↦ can | inr out ↦ absurd (no_out c.args.statement.now c.in_default.not-Print out) ] in
-      outcome_same (λ x needs. needs) (λ value so x needs. needs)
+      truly_same (λ x needs. needs) (λ value so x needs. needs)
       (λ value so. (so.0, subst (λ (text : List ℕ). HasWritten (g.T.Sink.stands c.args.sink.now) (g.T.Sink.stands c.args.sink.now) text) (sym (told_nothing (form_text c.args.form) p.objects statement env can)) written_none, so.1))
       (c.run.ensures.answer p is under known there can);
   in_row = λ p is under known there top clear.

@@ -1,6 +1,7 @@
 use Rattle.ql_eval.specs.TrueFaults.{IsNamedIn}
 use Rattle.ql_eval.specs.internal.Giving.{AllGiven}
 use Rattle.std.proofs.Common.{ℕ, List, []}
+use Rattle.std.specs.Prelude.{⊤}
 use Rattle.tree_node.specs.Shelves.{Stays}
 use Rattle.tree_node.proofs.shared.OutcomeLaws.{uses}
 use Rattle.tree_walk.specs.WalksGiven.{HasGiven}
@@ -20,7 +21,7 @@ invariant-loop-keys g l = record {
   walked : HasGiven (top_among l.manifest.tops) (IsSound NeverAbsent) (uses (g.S.Shelf.holds l.shelf) (g.S.Shelf.used l.fn.shelf) (g.S.Shelf.used l.shelf)) l.fn.tally.calls l.tally.calls l.fn.tally.fetches l.tally.fetches;
   named : AllGiven (IsNamedIn (g.S.Shelf.used l.shelf) l.manifest) l.names.items;
   answer : (p : Publication) → IsPublication p → IsUnder p l.manifest
-      → HasGone p l.keys-items (IsFoundIn p.objects l.area) IsCellsAsk l.keys-index [] l.names.items (uses (g.S.Shelf.holds l.shelf) (g.S.Shelf.used l.fn.shelf) (g.S.Shelf.used l.shelf));
+      → HasGone p l.keys-items (IsFoundIn p.objects l.area) IsCellsAsk ⊤ l.keys-index [] l.names.items (uses (g.S.Shelf.holds l.shelf) (g.S.Shelf.used l.fn.shelf) (g.S.Shelf.used l.shelf));
   read : (p : Publication) → IsPublication p → IsUnder p l.manifest
-      → HasGone p l.keys-items (IsInRange p.objects) IsCellsAsk l.keys-index [] l.cells.items (uses (g.S.Shelf.holds l.shelf) (g.S.Shelf.used l.fn.shelf) (g.S.Shelf.used l.shelf));
+      → HasGone p l.keys-items (IsInRange p.objects) IsCellsAsk ⊤ l.keys-index [] l.cells.items (uses (g.S.Shelf.holds l.shelf) (g.S.Shelf.used l.fn.shelf) (g.S.Shelf.used l.shelf));
 }

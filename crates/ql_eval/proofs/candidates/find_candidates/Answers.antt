@@ -10,16 +10,16 @@ returns-in-Ok-clause-bounded g c = λ p is under there lawful clear.
 
 pub returns-in_err-afford_base-in-Err-Memory-clause-answer : goal.returns-in_err-afford_base-in-Err-Memory-clause-answer
 returns-in_err-afford_base-in-Err-Memory-clause-answer g c = λ p is under there lawful.
-    within_stops _ c.from_residual.ensures.1 refl (c.in_err-afford_base-in-Err-Memory.ensures.answer p (lists_of c.args.sets.now.named.items) is (g.met.W.Source.same_under _ _ p c.read_base.ensures.later under) lawful)
+    within_stops _ c.from_residual.ensures.1 refl (c.in_err-afford_base-in-Err-Memory.ensures.answer p (lists_of c.args.sets.now.named.items) is (g.met.W.Source.still_reads _ _ p c.read_base.ensures.later (g.met.W.Source.under_reads _ p under)) lawful)
 
 pub returns-in_err-afford_base-in-Err-Memory-clause-bounded : goal.returns-in_err-afford_base-in-Err-Memory-clause-bounded
 returns-in_err-afford_base-in-Err-Memory-clause-bounded g c = λ p is under there lawful clear.
-    c.afford_base.ensures.bounded p (lists_of c.args.sets.now.named.items) is (g.met.W.Source.same_under _ _ p c.read_base.ensures.later under) lawful clear
+    c.afford_base.ensures.bounded p (lists_of c.args.sets.now.named.items) is (g.met.W.Source.still_reads _ _ p c.read_base.ensures.later (g.met.W.Source.under_reads _ p under)) lawful clear
     (first_bounded _ _ (c.read_base.ensures.bounded p is under there lawful (clear_before (λ x. g.met.W.Source.grows _ _ x c.afford_base.ensures.later) clear)))
 
 pub returns-in_ok-afford_base-in-Err-Memory-clause-bounded : goal.returns-in_ok-afford_base-in-Err-Memory-clause-bounded
 returns-in_ok-afford_base-in-Err-Memory-clause-bounded g c = λ p is under there lawful clear.
-    c.afford_base.ensures.bounded p (lists_of c.args.sets.now.named.items) is (g.met.W.Source.same_under _ _ p c.read_base.ensures.later under) lawful clear
+    c.afford_base.ensures.bounded p (lists_of c.args.sets.now.named.items) is (g.met.W.Source.still_reads _ _ p c.read_base.ensures.later (g.met.W.Source.under_reads _ p under)) lawful clear
     (first_bounded _ _ (c.read_base.ensures.bounded p is under there lawful (clear_before (λ x. g.met.W.Source.grows _ _ x c.afford_base.ensures.later) clear)))
 
 pub returns-in-Err-clause-bounded : goal.returns-in-Err-clause-bounded

@@ -2,7 +2,7 @@ use Rattle.std.proofs.Common.{◌≡◌, ℕ, ℤ, List, Ok, refl, sym, ap, subs
 use Rattle.std.specs.List.{Contains}
 use Rattle.osm_model.specs.Boxes.{ExactBox}
 use Rattle.osm_model.specs.declared.reference.Ref.{Ref}
-use Rattle.tree_node.proofs.shared.OutcomeLaws.{outcome_same, outcome_starts, uses}
+use Rattle.tree_node.proofs.shared.OutcomeLaws.{outcome_starts, uses}
 use Rattle.osm_keys.specs.Ranges.{IsKindOf}
 use Rattle.ql_syntax.specs.Filters.{Filter, HasKey, Ids, KeyIs, Within}
 use Rattle.ql_syntax.specs.LawfulQueries.{Allows}
@@ -22,6 +22,7 @@ use Rattle.ql_eval.specs.Work.{WorkOfBase}
 use Rattle.ql_eval.specs.internal.Metering.{IsBounded, IsSpent}
 use Rattle.ql_eval.proofs.MeterLemmas.{nothing_spent, still}
 use Rattle.ql_eval.proofs.AbsenceLemmas.{ids_asked}
+use Rattle.ql_eval.proofs.TruthLemmas.{truly_same}
 use Rattle.ql_eval.proofs.candidates.kept_by.Goals as goal
 
 pub returns-in-Ids-clause-answer : goal.returns-in-Ids-clause-answer
@@ -29,8 +30,8 @@ returns-in-Ids-clause-answer g c = λ p is under there allowed.
     let env = lists_of c.args.sets.now.named.items in
     let kind = c.kind_of-kind.result in
     let ids = c.as_slice.result.now in
-    kept_as p env (uses (g.W.Source.holds c.with_ids.new.source) (g.W.Source.used c.args.source.now) (g.W.Source.used c.with_ids.new.source)) c.with_ids.result c.kind_of-kind.ensures (ap filter_of c.in-Ids.is ∙ ap (λ (l : List ℤ). Ids l) (sym c.as_slice.ensures))
-    (outcome_same (λ x needs. needs) (λ refs so x needs. needs) (λ refs. ids_kept p.objects env kind refs ids) (c.with_ids.ensures.answer p is under))
+    kept_as p env (g.W.Source.under c.with_ids.new.source p) (uses (g.W.Source.holds c.with_ids.new.source) (g.W.Source.used c.args.source.now) (g.W.Source.used c.with_ids.new.source)) c.with_ids.result c.kind_of-kind.ensures (ap filter_of c.in-Ids.is ∙ ap (λ (l : List ℤ). Ids l) (sym c.as_slice.ensures))
+    (truly_same (λ x needs. needs) (λ refs so x needs. needs) (λ refs. ids_kept p.objects env kind refs ids) (c.with_ids.ensures.answer p is under))
 
 pub returns-in_ok-picked-in-InSet-clause-answer : goal.returns-in_ok-picked-in-InSet-clause-answer
 returns-in_ok-picked-in-InSet-clause-answer g c = λ p is under there allowed.
@@ -39,16 +40,16 @@ returns-in_ok-picked-in-InSet-clause-answer g c = λ p is under there allowed.
     let name = c.in-InSet.name in
     let refs = c.in_ok-picked-in-InSet.field-0 in
     let so = subst (λ (set : List Ref). IsSetOf refs (λ r. Contains set r × IsKindOf kind r)) (c.get.ensures ∙ ap env c.as_bytes.ensures) c.in_ok-picked-in-InSet.ensures in
-    kept_as p env (uses (g.W.Source.holds c.args.source.now) (g.W.Source.used c.args.source.now) (g.W.Source.used c.args.source.now)) (Ok c.in_ok-picked-in-InSet.field-0) c.kind_of-kind.ensures (ap filter_of c.in-InSet.is)
-    (outcome_starts (set_kept p.objects env kind refs name (there name) so) (λ x needs. needs.asked))
+    kept_as p env (g.W.Source.under c.args.source.now p) (uses (g.W.Source.holds c.args.source.now) (g.W.Source.used c.args.source.now) (g.W.Source.used c.args.source.now)) (Ok c.in_ok-picked-in-InSet.field-0) c.kind_of-kind.ensures (ap filter_of c.in-InSet.is)
+    (outcome_starts (set_kept p.objects env kind refs name (there name) so, under) (λ x needs. needs.asked))
 
 pub returns-in-Via-clause-answer : goal.returns-in-Via-clause-answer
 returns-in-Via-clause-answer g c = λ p is under there allowed.
     let env = lists_of c.args.sets.now.named.items in
     let kind = c.kind_of-kind.result in
     let set = c.get-in-Via.ensures ∙ ap env c.as_bytes-in-Via.ensures in
-    kept_as p env (uses (g.W.Source.holds c.on_path.new.source) (g.W.Source.used c.args.source.now) (g.W.Source.used c.on_path.new.source)) c.on_path.result c.kind_of-kind.ensures (ap filter_of c.in-Via.is)
-    (subst (λ (set : List Ref). PathWell p c.in-Via.path set kind (uses (g.W.Source.holds c.on_path.new.source) (g.W.Source.used c.args.source.now) (g.W.Source.used c.on_path.new.source)) c.on_path.result) set
+    kept_as p env (g.W.Source.under c.on_path.new.source p) (uses (g.W.Source.holds c.on_path.new.source) (g.W.Source.used c.args.source.now) (g.W.Source.used c.on_path.new.source)) c.on_path.result c.kind_of-kind.ensures (ap filter_of c.in-Via.is)
+    (subst (λ (set : List Ref). PathWell p c.in-Via.path set kind (g.W.Source.under c.on_path.new.source p) (uses (g.W.Source.holds c.on_path.new.source) (g.W.Source.used c.args.source.now) (g.W.Source.used c.on_path.new.source)) c.on_path.result) set
     (c.on_path.ensures.answer p is under (subst (λ (set : List Ref). AreThere p.objects set) (sym set) (there c.in-Via.name))))
 
 pub returns-in-KeyIs-clause-answer : goal.returns-in-KeyIs-clause-answer
@@ -57,8 +58,8 @@ returns-in-KeyIs-clause-answer g c = λ p is under there allowed.
     let key = c.as_bytes-in-KeyIs.result.now in
     let value = c.as_bytes-in-KeyIs-2.result.now in
     let filter : filter_of c.args.filter.now ≡ KeyIs key value = ap filter_of c.in-KeyIs.is ∙ ap (λ (k : List ℕ). KeyIs k c.in-KeyIs.value) (sym c.as_bytes-in-KeyIs.ensures) ∙ ap (λ (v : List ℕ). KeyIs key v) (sym c.as_bytes-in-KeyIs-2.ensures) in
-    kept_as p env (uses (g.W.Source.holds c.names.new.self) (g.W.Source.used c.args.source.now) (g.W.Source.used c.names.new.self)) c.names.result c.kind_of-kind.ensures filter
-    (outcome_same (needed_one (names_ask (WithTag key value c.kind_of-kind.result)) refl) (λ refs so. one_needed (names_ask (WithTag key value c.kind_of-kind.result))) (λ refs. tag_kept p.objects env c.kind_of-kind.result refs key value)
+    kept_as p env (g.W.Source.under c.names.new.self p) (uses (g.W.Source.holds c.names.new.self) (g.W.Source.used c.args.source.now) (g.W.Source.used c.names.new.self)) c.names.result c.kind_of-kind.ensures filter
+    (truly_same (needed_one (names_ask (WithTag key value c.kind_of-kind.result)) refl) (λ refs so. one_needed (names_ask (WithTag key value c.kind_of-kind.result))) (λ refs. tag_kept p.objects env c.kind_of-kind.result refs key value)
     (c.names.ensures.answer p is under (subst (λ (f : Filter). Allows c.args.pick f) filter allowed)))
 
 pub returns-in-HasKey-clause-answer : goal.returns-in-HasKey-clause-answer
@@ -66,16 +67,16 @@ returns-in-HasKey-clause-answer g c = λ p is under there allowed.
     let env = lists_of c.args.sets.now.named.items in
     let key = c.as_bytes-in-HasKey.result.now in
     let filter : filter_of c.args.filter.now ≡ HasKey key = ap filter_of c.in-HasKey.is ∙ ap (λ (k : List ℕ). HasKey k) (sym c.as_bytes-in-HasKey.ensures) in
-    kept_as p env (uses (g.W.Source.holds c.with_key.new.source) (g.W.Source.used c.args.source.now) (g.W.Source.used c.with_key.new.source)) c.with_key.result c.kind_of-kind.ensures filter
-    (outcome_same (λ x needs. needs) (λ refs so x needs. needs) (λ refs. key_kept p.objects env c.kind_of-kind.result refs key)
+    kept_as p env (g.W.Source.under c.with_key.new.source p) (uses (g.W.Source.holds c.with_key.new.source) (g.W.Source.used c.args.source.now) (g.W.Source.used c.with_key.new.source)) c.with_key.result c.kind_of-kind.ensures filter
+    (truly_same (λ x needs. needs) (λ refs so x needs. needs) (λ refs. key_kept p.objects env c.kind_of-kind.result refs key)
     (c.with_key.ensures.answer p is under (subst (λ (f : Filter). Allows c.args.pick f) filter allowed)))
 
 pub returns-in-Within-clause-answer : goal.returns-in-Within-clause-answer
 returns-in-Within-clause-answer g c = λ p is under there allowed.
     let env = lists_of c.args.sets.now.named.items in
     let area = c.deref.result.now in
-    kept_as p env (uses (g.W.Source.holds c.in_box.new.source) (g.W.Source.used c.args.source.now) (g.W.Source.used c.in_box.new.source)) c.in_box.result c.kind_of-kind.ensures (ap filter_of c.in-Within.is ∙ ap (λ (a : ExactBox). Within a) (sym c.deref.ensures))
-    (outcome_same (λ x needs. needs) (λ refs so x needs. needs) (λ refs. box_kept p.objects env c.kind_of-kind.result refs area) (c.in_box.ensures.answer p is under))
+    kept_as p env (g.W.Source.under c.in_box.new.source p) (uses (g.W.Source.holds c.in_box.new.source) (g.W.Source.used c.args.source.now) (g.W.Source.used c.in_box.new.source)) c.in_box.result c.kind_of-kind.ensures (ap filter_of c.in-Within.is ∙ ap (λ (a : ExactBox). Within a) (sym c.deref.ensures))
+    (truly_same (λ x needs. needs) (λ refs so x needs. needs) (λ refs. box_kept p.objects env c.kind_of-kind.result refs area) (c.in_box.ensures.answer p is under))
 
 pub returns-in_ok-picked-in-InSet-clause-named : goal.returns-in_ok-picked-in-InSet-clause-named
 returns-in_ok-picked-in-InSet-clause-named g c = part_given c.get.result.now c.in_ok-picked-in-InSet.field-0 c.in_ok-picked-in-InSet.ensures (subst (λ (l : List Ref). AllGiven (g.W.Source.gave c.args.source.now) l) (sym c.get.ensures) (c.requires.named c.as_bytes.result.now))

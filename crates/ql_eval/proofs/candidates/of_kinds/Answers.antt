@@ -9,7 +9,7 @@ pub returns-in_err-add_kind-clause-answer : goal.returns-in_err-add_kind-clause-
 returns-in_err-add_kind-clause-answer g c = λ p is under.
     gone_stops p c.args.kinds.now (IsOfThisKind p.objects) IsKindAsk c.loop-kind.kind-index _ c.loop-kind-test.true (get_or_default c.args.kinds.now c.loop-kind.kind-index _ _ c.loop-kind-test.true)
     _ c.from_residual.ensures.1 (λ x needs. needs) (λ x. g.met.W.Source.grows _ _ x c.add_kind.ensures.later)
-    (c.loop-kind.invariant.answer p is under) (c.in_err-add_kind.ensures.answer p is (g.met.W.Source.same_under _ _ p c.loop-kind.invariant.later under))
+    (c.loop-kind.invariant.answer p is under) (λ under_now. c.in_err-add_kind.ensures.answer p is under_now)
 
 pub loop-kind-preserved : goal.loop-kind-preserved
 loop-kind-preserved g c = record {
@@ -18,7 +18,7 @@ loop-kind-preserved g c = record {
   named = c.in_ok-add_kind.ensures.named;
   answer = λ p is under.
       gone_next p c.args.kinds.now (IsOfThisKind p.objects) IsKindAsk c.loop-kind.kind-index _ c.loop-kind-test.true (get_or_default c.args.kinds.now c.loop-kind.kind-index _ _ c.loop-kind-test.true)
-      (λ x. g.met.W.Source.grows _ _ x c.add_kind.ensures.later) (c.loop-kind.invariant.answer p is under) (c.in_ok-add_kind.ensures.answer p is (g.met.W.Source.same_under _ _ p c.loop-kind.invariant.later under));
+      (λ x. g.met.W.Source.grows _ _ x c.add_kind.ensures.later) (c.loop-kind.invariant.answer p is under) (λ under_now. c.in_ok-add_kind.ensures.answer p is under_now);
 }
 
 pub returns-clause-answer : goal.returns-clause-answer
@@ -31,7 +31,7 @@ loop-kind-init g c = record {
   later = g.met.W.Source.itself _;
   walked = g.met.W.Source.no_walk _;
   named = none_given _ _ c.new-refs.ensures.items;
-  answer = λ p is under. rw c.new-refs.ensures.items (gone_none p c.args.kinds.now (IsOfThisKind p.objects) IsKindAsk);
+  answer = λ p is under. rw c.new-refs.ensures.items (gone_none p c.args.kinds.now (IsOfThisKind p.objects) IsKindAsk under);
 }
 
 pub returns-clause-named : goal.returns-clause-named

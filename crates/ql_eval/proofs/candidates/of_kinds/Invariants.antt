@@ -12,5 +12,5 @@ invariant-loop-kind g l = record {
   walked : g.W.Source.walked l.fn.source l.source;
   named : AllGiven (g.W.Source.gave l.source) l.refs.items;
   answer : (p : Publication) → IsPublication p → g.W.Source.under l.fn.source p
-      → HasGone p l.kinds (IsOfThisKind p.objects) IsKindAsk l.kind-index [] l.refs.items (uses (g.W.Source.holds l.source) (g.W.Source.used l.fn.source) (g.W.Source.used l.source));
+      → HasGone p l.kinds (IsOfThisKind p.objects) IsKindAsk (g.W.Source.under l.source p) l.kind-index [] l.refs.items (uses (g.W.Source.holds l.source) (g.W.Source.used l.fn.source) (g.W.Source.used l.source));
 }

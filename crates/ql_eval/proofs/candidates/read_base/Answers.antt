@@ -2,7 +2,7 @@ use Rattle.std.proofs.Common.{List, Option, refl, sym, ap, subst, ◌∙◌}
 use Rattle.std.specs.Borrow.{Bor}
 use Rattle.std.specs.Option.{ForSome, option_map, option_to_list}
 use Rattle.osm_model.specs.declared.kind.Kind.{Kind}
-use Rattle.tree_node.proofs.shared.OutcomeLaws.{outcome_same, uses}
+use Rattle.tree_node.proofs.shared.OutcomeLaws.{uses}
 use Rattle.ql_syntax.specs.LawfulQueries.{Allows}
 use Rattle.ql_syntax.specs.StatementViews.{filter_of}
 use Rattle.ql_syntax.specs.declared.filter.Filter.{Filter}
@@ -14,22 +14,23 @@ use Rattle.ql_eval.specs.Work.{WorkOfBase}
 use Rattle.ql_eval.specs.internal.Metering.{IsBounded, IsSpent}
 use Rattle.ql_eval.proofs.CandidateLemmas.{FoundWell, KindsWell, all_selected, one_selected}
 use Rattle.ql_eval.proofs.MeterLemmas.{nothing_spent, still}
+use Rattle.ql_eval.proofs.TruthLemmas.{truly_same}
 use Rattle.ql_eval.proofs.candidates.read_base.Goals as goal
 
 pub returns-in-None-clause-answer : goal.returns-in-None-clause-answer
 returns-in-None-clause-answer g c = λ p is under there lawful.
     let env = lists_of c.args.sets.now.named.items in
     let shelf = uses (g.W.Source.holds c.of_kinds.new.source) (g.W.Source.used c.args.source.now) (g.W.Source.used c.of_kinds.new.source) in
-    subst (λ (b : Option (Bor Filter)). FoundWell p env c.args.pick (option_map (λ f. filter_of f.now) b) shelf c.of_kinds.result) (sym c.in-None.is)
-    (outcome_same (λ x needs. needs) (λ refs so x needs. needs) (λ refs. all_selected p.objects env c.args.pick refs)
-    (subst (λ (kinds : List Kind). KindsWell p kinds shelf c.of_kinds.result) (c.kinds_in.ensures ∙ ap kinds_of c.kind_of.ensures) (c.of_kinds.ensures.answer p is under)))
+    subst (λ (b : Option (Bor Filter)). FoundWell p env c.args.pick (option_map (λ f. filter_of f.now) b) (g.W.Source.under c.of_kinds.new.source p) shelf c.of_kinds.result) (sym c.in-None.is)
+    (truly_same (λ x needs. needs) (λ refs so x needs. needs) (λ refs. all_selected p.objects env c.args.pick refs)
+    (subst (λ (kinds : List Kind). KindsWell p kinds (g.W.Source.under c.of_kinds.new.source p) shelf c.of_kinds.result) (c.kinds_in.ensures ∙ ap kinds_of c.kind_of.ensures) (c.of_kinds.ensures.answer p is under)))
 
 pub returns-in-Some-clause-answer : goal.returns-in-Some-clause-answer
 returns-in-Some-clause-answer g c = λ p is under there lawful.
     let env = lists_of c.args.sets.now.named.items in
     let shelf = uses (g.W.Source.holds c.kept_by.new.source) (g.W.Source.used c.args.source.now) (g.W.Source.used c.kept_by.new.source) in
-    subst (λ (b : Option (Bor Filter)). FoundWell p env c.args.pick (option_map (λ f. filter_of f.now) b) shelf c.kept_by.result) (sym c.in-Some.is)
-    (outcome_same (λ x needs. needs) (λ refs so x needs. needs) (λ refs. one_selected p.objects env c.args.pick (filter_of c.in-Some.filter.now) refs)
+    subst (λ (b : Option (Bor Filter)). FoundWell p env c.args.pick (option_map (λ f. filter_of f.now) b) (g.W.Source.under c.kept_by.new.source p) shelf c.kept_by.result) (sym c.in-Some.is)
+    (truly_same (λ x needs. needs) (λ refs so x needs. needs) (λ refs. one_selected p.objects env c.args.pick (filter_of c.in-Some.filter.now) refs)
     (c.kept_by.ensures.answer p is under there (subst (λ (b : Option (Bor Filter)). ForSome (option_map (λ f. filter_of f.now) b) (Allows c.args.pick)) c.in-Some.is lawful _ refl)))
 
 pub returns-in-None-clause-bounded : goal.returns-in-None-clause-bounded

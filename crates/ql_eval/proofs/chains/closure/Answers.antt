@@ -2,7 +2,7 @@ use Rattle.std.proofs.Common.{◌≡◌, ◌*◌, ◌-◌, ℕ, List, [], length
 use Rattle.std.proofs.lemmas.List.{take_all}
 use Rattle.std.specs.List.{Contains}
 use Rattle.osm_model.specs.declared.reference.Ref.{Ref}
-use Rattle.tree_node.proofs.shared.OutcomeLaws.{outcome_as, outcome_stops, outcome_then, outcome_then_stops, uses, memory_stops}
+use Rattle.tree_node.proofs.shared.OutcomeLaws.{outcome_stops, uses, memory_stops}
 use Rattle.ref_sets.specs.Adding.{Adds}
 use Rattle.ql_eval.specs.Questions.{NeededBy}
 use Rattle.ql_eval.specs.Work.{OfSet, Steps, step_cost}
@@ -18,6 +18,7 @@ use Rattle.ql_eval.proofs.GivenLemmas.{added_given, all_later, none_given, rest_
 use Rattle.ql_eval.specs.internal.Giving.{AllGiven}
 use Rattle.ql_eval.proofs.ExitLemmas.{no_value}
 use Rattle.ql_eval.proofs.StepLemmas.{refused_as}
+use Rattle.ql_eval.proofs.TruthLemmas.{truly_as, truly_then, truly_then_stops}
 use Rattle.ql_eval.proofs.chains.closure.Goals as goal
 
 pub returns-in_err-next-clause-later : goal.returns-in_err-next-clause-later
@@ -69,7 +70,7 @@ loop-at-init g c = record {
       let from = c.args.from.now in
       let refs = c.add_all.new.found.refs.items in
       let adds = subst (λ (l : List Ref). Adds [] refs (Contains l)) c.as_slice.ensures.value (subst (λ (l : List Ref). Adds l refs (Contains c.as_slice.result.now)) c.new-found.ensures.empty c.in_ok-add_all.ensures.added) in
-      outcome_as (first_needs p c.args.direction from) (λ so. needs_first p c.args.direction from) (λ so. chained_first c.args.direction p.objects from c.in_ok-next.next refs so adds) (c.in_ok-next.ensures.answer p is under there);
+      truly_as (first_needs p c.args.direction from) (λ so. needs_first p c.args.direction from) (λ so. chained_first c.args.direction p.objects from c.in_ok-next.next refs so adds) (c.in_ok-next.ensures.answer p is under there);
 }
 
 pub returns-in_err-afford : goal.returns-in_err-afford
@@ -87,7 +88,7 @@ returns-in_err-afford g c =
           let so = found_well (λ x used. used) clear (c.loop-at.invariant.answer p is under there) in
           let same : c.len-in-loop-at.result ≡ length refs = omega arith in
           subst (λ (old : ℕ). IsBounded (OfSet (IsEnd direction p.objects from) (λ found. Steps (length found))) old c.afford.new.self.spent) c.loop-at.invariant.same
-          (found_bounded (IsEnd direction p.objects from) refs _ _ c.loop-at.invariant.apart so.sound
+          (found_bounded (IsEnd direction p.objects from) refs _ _ c.loop-at.invariant.apart so.0.sound
           (subst (λ (n : ℕ). IsCounted c.loop-at.meter.spent c.afford.new.self.spent (step_cost * n)) same c.in_err-afford.ensures.counted));
       same = no_value end.result _ _ end.ensures.1;
     }
@@ -115,10 +116,10 @@ returns-in_err-next-2 g c =
           let all = c.deref.result.now in
           let rest : take (length all - at) (drop at all) ≡ drop at refs = slice_is_rest all at ∙ ap (λ (l : List Ref). drop at l) c.deref.ensures.value in
           let shelf = uses (g.W.Source.holds c.one_link-in-loop-at.new.source) (g.W.Source.used c.loop-at.source) (g.W.Source.used c.one_link-in-loop-at.new.source) in
-          outcome_then_stops _ end.ensures.1 refl (λ x. g.met.W.Source.grows _ _ x c.one_link-in-loop-at.ensures.later)
+          truly_then_stops _ end.ensures.1 refl (λ x. g.met.W.Source.grows _ _ x c.one_link-in-loop-at.ensures.later)
           (chain_ends p direction from (take at refs)) (λ so. left_ends p direction from at refs so) (c.loop-at.invariant.answer p is under there)
-          (λ so. subst (λ (names : List Ref). LedWell p direction names shelf (Err c.in_err-next-2.field-0.0)) rest
-          (c.in_err-next-2.ensures.answer p is (g.met.W.Source.same_under _ _ p c.loop-at.invariant.later under) (subst (λ (names : List Ref). AreThere p.objects names) (sym rest) (left_there direction p.objects from at refs so))));
+          (λ so under_now. subst (λ (names : List Ref). LedWell p direction names (g.W.Source.under c.one_link-in-loop-at.new.source p) shelf (Err c.in_err-next-2.field-0.0)) rest
+          (c.in_err-next-2.ensures.answer p is under_now (subst (λ (names : List Ref). AreThere p.objects names) (sym rest) (left_there direction p.objects from at refs so))));
       bounded = λ p is under there clear.
           subst (λ (new : ℕ). IsBounded (OfSet (IsEnd c.args.direction p.objects c.args.from.now) (λ found. Steps (length found))) c.args.meter.now.spent new) (sym (c.in_ok-afford.ensures.same ∙ c.loop-at.invariant.same)) (still _ _);
       same = no_value end.result _ _ end.ensures.1;
@@ -161,13 +162,13 @@ loop-at-preserved g c =
           let whole = uses (g.W.Source.holds c.one_link-in-loop-at.new.source) (g.W.Source.used c.args.source.now) (g.W.Source.used c.one_link-in-loop-at.new.source) in
           let adds = subst (λ (l : List Ref). Adds refs more (Contains l)) c.as_slice-in-loop-at.ensures.value c.in_ok-add_all-2.ensures.added in
           let front : take c.len-at.result more ≡ refs = ap (λ n. take n more) (omega arith) ∙ front_stays refs more goes in
-          subst (λ (followed : List Ref). ChainedWell p direction from followed more whole) (sym front)
-          (outcome_then (λ x. g.met.W.Source.grows _ _ x c.one_link-in-loop-at.ensures.later)
+          subst (λ (followed : List Ref). ChainedWell p direction from followed more (g.W.Source.under c.one_link-in-loop-at.new.source p) whole) (sym front)
+          (truly_then (λ x. g.met.W.Source.grows _ _ x c.one_link-in-loop-at.ensures.later)
           (front_asks p direction from at refs) (λ so. left_asks p direction from at refs so) (λ so next. asks_split p direction from at refs)
           (λ so next. chained_next direction p.objects from at refs c.in_ok-next-2.next more so next adds)
           (c.loop-at.invariant.answer p is under there)
-          (λ so. subst (λ (names : List Ref). LedWell p direction names shelf (Ok c.in_ok-next-2.next)) rest
-          (c.in_ok-next-2.ensures.answer p is (g.met.W.Source.same_under _ _ p c.loop-at.invariant.later under) (subst (λ (names : List Ref). AreThere p.objects names) (sym rest) (left_there direction p.objects from at refs so)))));
+          (λ so under_now. subst (λ (names : List Ref). LedWell p direction names (g.W.Source.under c.one_link-in-loop-at.new.source p) shelf (Ok c.in_ok-next-2.next)) rest
+          (c.in_ok-next-2.ensures.answer p is under_now (subst (λ (names : List Ref). AreThere p.objects names) (sym rest) (left_there direction p.objects from at refs so)))));
     }
 
 pub returns-clause-later : goal.returns-clause-later
@@ -188,7 +189,7 @@ returns-clause-answer g c = λ p is under there.
     let from = c.args.from.now in
     let refs = c.loop-at.found.refs.items in
     let all : take c.loop-at.at refs ≡ refs = take_all c.loop-at.at refs (omega arith) in
-    outcome_as (chain_ends p direction from (take c.loop-at.at refs))
+    truly_as (chain_ends p direction from (take c.loop-at.at refs))
     (λ so x needs. subst (λ (followed : List Ref). NeededBy p (IsChainAsk direction p.objects from followed) x) (sym all) (ends_chain p direction from refs (subst (λ (followed : List Ref). AreChained direction p.objects from followed refs) all so) x needs))
     (λ so. chained_all direction p.objects from refs _ (subst (λ (followed : List Ref). AreChained direction p.objects from followed refs) all so) c.from_refs.ensures)
     (c.loop-at.invariant.answer p is under there)

@@ -21,6 +21,7 @@ use Rattle.ql_eval.proofs.KnownLemmas.{none_remembered}
 use Rattle.ql_eval.proofs.RememberLemmas.{none_recalled}
 use Rattle.ref_sets.proofs.shared.Results.{on_ok_as}
 use Rattle.ql_eval.specs.Work.{HasNoClash}
+use Rattle.ql_eval.proofs.TruthLemmas.{truly_ended}
 use Rattle.ql_eval.proofs.evaluation.run_over.Goals as goal
 
 pub returns-clause-answer : goal.returns-clause-answer
@@ -29,7 +30,7 @@ returns-clause-answer g c = λ p is under query.
     (λ s. Outcome cause_of_evaluation (λ (_ : Unit {0}). (text : List ℕ) × Means_by (form_text c.args.form) p.objects (statements_of c.args.statements.now) text × HasWritten (g.T.Sink.stands c.args.sink.now) (g.T.Sink.stands c.answer_all-ran.new.sink) text)
     (NeededBy p (AskedByAll p (statements_of c.args.statements.now) nothing_named)) (uses (g.S.Shelf.holds s) (g.S.Shelf.used c.args.shelf.now) (g.S.Shelf.used s)) c.answer_all-ran.result)
     (search rules)
-    (c.answer_all-ran.ensures.answer p is (under, none_remembered p _ c.new-objects.result c.new-objects.ensures.empty, none_recalled p _ c.new-memo.result.remembered.items c.new-memo.ensures) query)
+    (truly_ended (c.answer_all-ran.ensures.answer p is (under, none_remembered p _ c.new-objects.result c.new-objects.ensures.empty, none_recalled p _ c.new-memo.result.remembered.items c.new-memo.ensures) query))
 
 pub returns-clause-bounded : goal.returns-clause-bounded
 returns-clause-bounded g c = λ p is under query clear.
@@ -45,7 +46,7 @@ pub returns-clause-walked : goal.returns-clause-walked
 returns-clause-walked g c =
     let source = c.answer_all-ran.new.source in
     let later = c.answer_all-ran.ensures.later in
-    let ended = sound_end c.answer_all-ran.result (top_among source.manifest.tops) (statements_of source.statements.now) source.manifest source.objects.now _ _ _ _ _ _ _ (later.12 (none_read _ c.args.manifest c.new-objects.result c.new-objects.ensures.empty)) c.answer_all-ran.ensures.walked in
+    let ended = sound_end c.answer_all-ran.result (top_among source.manifest.tops) (statements_of source.statements.now) source.manifest source.objects.now _ _ _ _ _ _ _ (later.10 (none_read _ c.args.manifest c.new-objects.result c.new-objects.ensures.empty)) c.answer_all-ran.ensures.walked in
     let here =
     subst
     (λ (m : Manifest). OnOk c.answer_all-ran.result (HasGiven (top_among m.tops) (IsSound (MayBeAbsent (statements_of source.statements.now) (g.S.Shelf.used source.shelf.now) m)) (uses (g.S.Shelf.holds source.shelf.now) (g.S.Shelf.used c.args.shelf.now) (g.S.Shelf.used source.shelf.now)) 0 source.tally.calls 0 source.tally.fetches))
@@ -53,7 +54,7 @@ returns-clause-walked g c =
     let said =
     subst
     (λ (ss : Bor (List Stmt)). OnOk c.answer_all-ran.result (HasGiven (top_among c.args.manifest.tops) (IsSound (MayBeAbsent (statements_of ss.now) (g.S.Shelf.used source.shelf.now) c.args.manifest)) (uses (g.S.Shelf.holds source.shelf.now) (g.S.Shelf.used c.args.shelf.now) (g.S.Shelf.used source.shelf.now)) 0 source.tally.calls 0 source.tally.fetches))
-    (sym later.11) here in
+    (sym later.9) here in
     subst
     (λ s. OnOk c.answer_all-ran.result (HasGiven (top_among c.args.manifest.tops) (IsSound (MayBeAbsent (statements_of c.args.statements.now) (g.S.Shelf.used s) c.args.manifest)) (uses (g.S.Shelf.holds s) (g.S.Shelf.used c.args.shelf.now) (g.S.Shelf.used s)) 0 source.tally.calls 0 source.tally.fetches))
     (search rules) said

@@ -23,10 +23,10 @@ returns-in_err-add_passing-clause-answer g c = λ p is under there.
     let env = lists_of c.args.sets.now.named.items in
     let rest = filters_of c.args.before.now ++ filters_of c.args.after.now in
     let are = subst (λ (l : List Ref). AreThere p.objects l) (sym c.as_slice-names.ensures.value) there in
-    subst (λ (l : List Ref). PassedWell p env rest l (uses (g.W.Source.holds c.add_passing.new.source) (g.W.Source.used c.args.source.now) (g.W.Source.used c.add_passing.new.source)) c.from_residual.result) c.as_slice-names.ensures.value
+    subst (λ (l : List Ref). PassedWell p env rest l (g.W.Source.under c.add_passing.new.source p) (uses (g.W.Source.holds c.add_passing.new.source) (g.W.Source.used c.args.source.now) (g.W.Source.used c.add_passing.new.source)) c.from_residual.result) c.as_slice-names.ensures.value
     (gone_stops p names (IsPassingAs p.objects env rest) IsObjectAsk c.loop-name.name-index _ c.loop-name-test.true (get_or_default names c.loop-name.name-index _ _ c.loop-name-test.true)
     _ c.from_residual.ensures.1 (λ x needs. needs) (λ x. g.met.W.Source.grows _ _ x c.add_passing.ensures.later) (c.loop-name.invariant.answer p is under are)
-    (c.in_err-add_passing.ensures.answer p is (g.met.W.Source.same_under _ _ p c.loop-name.invariant.later under) (are _ (Contains-get_or names c.loop-name.name-index _ c.loop-name-test.true))))
+    (λ under_now. c.in_err-add_passing.ensures.answer p is under_now (are _ (Contains-get_or names c.loop-name.name-index _ c.loop-name-test.true))))
 
 pub loop-name-preserved : goal.loop-name-preserved
 loop-name-preserved g c =
@@ -40,7 +40,7 @@ loop-name-preserved g c =
           gone_next p names (IsPassingAs p.objects (lists_of c.args.sets.now.named.items) (filters_of c.args.before.now ++ filters_of c.args.after.now)) IsObjectAsk
           c.loop-name.name-index _ c.loop-name-test.true (get_or_default names c.loop-name.name-index _ _ c.loop-name-test.true)
           (λ x. g.met.W.Source.grows _ _ x c.add_passing.ensures.later) (c.loop-name.invariant.answer p is under there)
-          (c.in_ok-add_passing.ensures.answer p is (g.met.W.Source.same_under _ _ p c.loop-name.invariant.later under) (there _ (Contains-get_or names c.loop-name.name-index _ c.loop-name-test.true)));
+          (λ under_now. c.in_ok-add_passing.ensures.answer p is under_now (there _ (Contains-get_or names c.loop-name.name-index _ c.loop-name-test.true)));
     }
 
 pub returns-clause-answer : goal.returns-clause-answer
@@ -49,7 +49,7 @@ returns-clause-answer g c = λ p is under there.
     let env = lists_of c.args.sets.now.named.items in
     let rest = filters_of c.args.before.now ++ filters_of c.args.after.now in
     let are = subst (λ (l : List Ref). AreThere p.objects l) (sym c.as_slice-names.ensures.value) there in
-    subst (λ (l : List Ref). PassedWell p env rest l (uses (g.W.Source.holds c.loop-name.source) (g.W.Source.used c.args.source.now) (g.W.Source.used c.loop-name.source)) (Ok c.from_refs.result)) c.as_slice-names.ensures.value
+    subst (λ (l : List Ref). PassedWell p env rest l (g.W.Source.under c.loop-name.source p) (uses (g.W.Source.holds c.loop-name.source) (g.W.Source.used c.args.source.now) (g.W.Source.used c.loop-name.source)) (Ok c.from_refs.result)) c.as_slice-names.ensures.value
     (gone_all p names (IsPassingAs p.objects env rest) IsObjectAsk c.loop-name.name-index c.loop-name-test.false (λ x needs. needs) (λ x needs. needs) (λ so. set_of_added so c.from_refs.ensures) (c.loop-name.invariant.answer p is under are))
 
 pub returns-clause-there : goal.returns-clause-there
@@ -62,7 +62,7 @@ loop-name-init g c = record {
   walked = c.announce_all.ensures.walked;
   there = λ r among. absurd (none r among);
   named = none_given _ _ c.new-refs.ensures.items;
-  answer = λ p is under there. rw c.new-refs.ensures.items (gone_same p c.as_slice-names.result.now (IsPassingAs p.objects (lists_of c.args.sets.now.named.items) (filters_of c.args.before.now ++ filters_of c.args.after.now)) IsObjectAsk c.announce_all.ensures.used);
+  answer = λ p is under there. rw c.new-refs.ensures.items (gone_same p c.as_slice-names.result.now (IsPassingAs p.objects (lists_of c.args.sets.now.named.items) (filters_of c.args.before.now ++ filters_of c.args.after.now)) IsObjectAsk c.announce_all.ensures.used (c.announce_all.ensures.truly p is under));
 }
 
 pub add_passing-requires-clause-name_named : goal.add_passing-requires-clause-name_named

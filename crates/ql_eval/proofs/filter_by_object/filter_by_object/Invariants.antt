@@ -17,6 +17,6 @@ invariant-loop-name g l = record {
   there : AreKnownThere (g.W.Source.knows l.source) (take l.name-index l.names);
   named : AllGiven (g.W.Source.gave l.source) l.refs.items;
   answer : (p : Publication) → IsPublication p → g.W.Source.under l.fn.source p → AreThere p.objects l.names
-      → HasGone p l.names (IsPassingAs p.objects (lists_of l.sets.named.items) (filters_of l.before ++ filters_of l.after)) IsObjectAsk l.name-index [] l.refs.items
+      → HasGone p l.names (IsPassingAs p.objects (lists_of l.sets.named.items) (filters_of l.before ++ filters_of l.after)) IsObjectAsk (g.W.Source.under l.source p) l.name-index [] l.refs.items
       (uses (g.W.Source.holds l.source) (g.W.Source.used l.fn.source) (g.W.Source.used l.source));
 }

@@ -1,7 +1,8 @@
 use Rattle.std.proofs.Common.{refl}
-use Rattle.tree_node.proofs.shared.OutcomeLaws.{outcome_as, outcome_stops}
+use Rattle.tree_node.proofs.shared.OutcomeLaws.{outcome_stops}
 use Rattle.ql_eval.proofs.NarrowingLemmas.{needs_path, path_is, path_needs}
 use Rattle.ql_eval.proofs.GivenLemmas.{all_later, part_given}
+use Rattle.ql_eval.proofs.TruthLemmas.{truly_as}
 use Rattle.ql_eval.proofs.filter_by_reference.listed_from.Goals as goal
 
 pub returns-in_err-listed-clause-answer : goal.returns-in_err-listed-clause-answer
@@ -12,7 +13,7 @@ pub returns-clause-answer : goal.returns-clause-answer
 returns-clause-answer g c = λ p is under there.
     let from = c.args.from.now in
     let some = c.of_kinds.result.now in
-    outcome_as (needs_path from some c.args.kind c.of_kinds.ensures.members) (λ so. path_needs from some c.args.kind c.of_kinds.ensures.members c.requires.parent)
+    truly_as (needs_path from some c.args.kind c.of_kinds.ensures.members) (λ so. path_needs from some c.args.kind c.of_kinds.ensures.members c.requires.parent)
     (λ so. path_is from some c.args.kind c.of_kinds.ensures.members p.objects c.args.refs.now c.in_ok-listed.listed c.in_ok-intersection.field-0 so
     c.in_ok-intersection.ensures)
     (c.in_ok-listed.ensures.answer p is under (λ r has. there r ((c.of_kinds.ensures.members r).0 has).0))

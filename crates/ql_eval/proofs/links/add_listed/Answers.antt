@@ -2,13 +2,14 @@ use Rattle.std.proofs.Common.{◌≢◌, Option, ap, sym, subst, ◌∙◌, rule
 use Rattle.osm_model.specs.Elements.{Element}
 use Rattle.osm_model.specs.declared.kind.Kind.TheVariants as kinds
 use Rattle.std.specs.Option.{option_copied}
-use Rattle.tree_node.proofs.shared.OutcomeLaws.{never_stops, outcome_as, outcome_stops, memory_stops}
+use Rattle.tree_node.proofs.shared.OutcomeLaws.{outcome_stops, memory_stops}
 use Rattle.ql_eval.proofs.LinkLemmas.{needs_parent, object_lists, parent_needs}
 use Rattle.ql_eval.proofs.KnownLemmas.{known_is_none}
 use Rattle.ql_eval.proofs.ObjectLemmas.{none_there}
 use Rattle.ql_eval.proofs.ExitLemmas.{no_value}
 use Rattle.ql_eval.proofs.StepLemmas.{refused_as}
 use Rattle.ql_eval.proofs.GivenLemmas.{added_given}
+use Rattle.ql_eval.proofs.TruthLemmas.{truly_as, truly_never_stops}
 use Rattle.ql_eval.proofs.links.add_listed.Goals as goal
 
 pub returns-in_err-look_up-clause-later : goal.returns-in_err-look_up-clause-later
@@ -62,7 +63,7 @@ returns-in_ok-add_items-in-Some-clause-told g c = tt
 pub returns-in_ok-add_items-in-Some-clause-answer : goal.returns-in_ok-add_items-in-Some-clause-answer
 returns-in_ok-add_items-in-Some-clause-answer g c = λ p is under there.
     let other : c.args.name.kind ≢ kinds.Node = search rules in
-    outcome_as (parent_needs c.args.name other) (λ so. needs_parent c.args.name)
+    truly_as (parent_needs c.args.name other) (λ so. needs_parent c.args.name)
     (λ so. object_lists p.objects c.args.name c.in-Some.object.now _ _ is.set (sym (ap option_copied c.in-Some.is) ∙ c.known.ensures _ so) c.in_ok-add_items-in-Some.ensures) (c.in_ok-look_up.ensures.answer p is under)
 
 pub returns-in-None-clause-later : goal.returns-in-None-clause-later
@@ -84,4 +85,4 @@ returns-in-None-clause-told g c =
 pub returns-in-None-clause-answer : goal.returns-in-None-clause-answer
 returns-in-None-clause-answer g c = λ p is under there.
     let other : c.args.name.kind ≢ kinds.Node = search rules in
-    never_stops (parent_needs c.args.name other) (λ so. none_there p.objects c.args.name is.set (sym (sym (ap option_copied c.in-None.is) ∙ c.known.ensures _ so)) there) (c.in_ok-look_up.ensures.answer p is under)
+    truly_never_stops (parent_needs c.args.name other) (λ so. none_there p.objects c.args.name is.set (sym (sym (ap option_copied c.in-None.is) ∙ c.known.ensures _ so)) there) (c.in_ok-look_up.ensures.answer p is under)

@@ -14,7 +14,7 @@ pub returns-in_err-add_listed-clause-answer : goal.returns-in_err-add_listed-cla
 returns-in_err-add_listed-clause-answer g c = λ p is under there.
     gone_stops p c.args.names.now (IsListedOf p.objects) IsParentAsk c.loop-name.name-index _ c.loop-name-test.true (get_or_default c.args.names.now c.loop-name.name-index _ _ c.loop-name-test.true)
     _ c.from_residual.ensures.1 (λ x needs. needs) (λ x. g.met.W.Source.grows _ _ x c.add_listed.ensures.later)
-    (c.loop-name.invariant.answer p is under there) (c.in_err-add_listed.ensures.answer p is (g.met.W.Source.same_under _ _ p c.loop-name.invariant.later under) (there _ (Contains-get_or c.args.names.now c.loop-name.name-index _ c.loop-name-test.true)))
+    (c.loop-name.invariant.answer p is under there) (λ under_now. c.in_err-add_listed.ensures.answer p is under_now (there _ (Contains-get_or c.args.names.now c.loop-name.name-index _ c.loop-name-test.true)))
 
 pub loop-name-preserved : goal.loop-name-preserved
 loop-name-preserved g c = record {
@@ -24,7 +24,7 @@ loop-name-preserved g c = record {
   there = known_more IsKnownParent parent_later _ _ c.args.names.now c.loop-name.name-index _ c.loop-name-test.true (λ r o. g.met.W.Source.same_known _ _ r o c.add_listed.ensures.later) c.loop-name.invariant.there c.in_ok-add_listed.ensures.there;
   answer = λ p is under there.
       gone_next p c.args.names.now (IsListedOf p.objects) IsParentAsk c.loop-name.name-index _ c.loop-name-test.true (get_or_default c.args.names.now c.loop-name.name-index _ _ c.loop-name-test.true)
-      (λ x. g.met.W.Source.grows _ _ x c.add_listed.ensures.later) (c.loop-name.invariant.answer p is under there) (c.in_ok-add_listed.ensures.answer p is (g.met.W.Source.same_under _ _ p c.loop-name.invariant.later under) (there _ (Contains-get_or c.args.names.now c.loop-name.name-index _ c.loop-name-test.true)));
+      (λ x. g.met.W.Source.grows _ _ x c.add_listed.ensures.later) (c.loop-name.invariant.answer p is under there) (λ under_now. c.in_ok-add_listed.ensures.answer p is under_now (there _ (Contains-get_or c.args.names.now c.loop-name.name-index _ c.loop-name-test.true)));
 }
 
 pub returns-clause-answer : goal.returns-clause-answer

@@ -9,7 +9,7 @@ pub returns-in_err-add_referrers-clause-answer : goal.returns-in_err-add_referre
 returns-in_err-add_referrers-clause-answer g c = λ p is under.
     gone_stops p c.args.names.now (ListsIt p.objects c.args.kind) (IsBackAsk c.args.kind) c.loop-name.name-index _ c.loop-name-test.true (get_or_default c.args.names.now c.loop-name.name-index _ _ c.loop-name-test.true)
     _ c.from_residual.ensures.1 (λ x needs. needs) (λ x. g.met.W.Source.grows _ _ x c.add_referrers.ensures.later)
-    (c.loop-name.invariant.answer p is under) (c.in_err-add_referrers.ensures.answer p is (g.met.W.Source.same_under _ _ p c.loop-name.invariant.later under))
+    (c.loop-name.invariant.answer p is under) (λ under_now. c.in_err-add_referrers.ensures.answer p is under_now)
 
 pub loop-name-preserved : goal.loop-name-preserved
 loop-name-preserved g c = record {
@@ -18,7 +18,7 @@ loop-name-preserved g c = record {
   named = c.in_ok-add_referrers.ensures.named;
   answer = λ p is under.
       gone_next p c.args.names.now (ListsIt p.objects c.args.kind) (IsBackAsk c.args.kind) c.loop-name.name-index _ c.loop-name-test.true (get_or_default c.args.names.now c.loop-name.name-index _ _ c.loop-name-test.true)
-      (λ x. g.met.W.Source.grows _ _ x c.add_referrers.ensures.later) (c.loop-name.invariant.answer p is under) (c.in_ok-add_referrers.ensures.answer p is (g.met.W.Source.same_under _ _ p c.loop-name.invariant.later under));
+      (λ x. g.met.W.Source.grows _ _ x c.add_referrers.ensures.later) (c.loop-name.invariant.answer p is under) (λ under_now. c.in_ok-add_referrers.ensures.answer p is under_now);
 }
 
 pub returns-clause-answer : goal.returns-clause-answer
@@ -31,7 +31,7 @@ loop-name-init g c = record {
   later = g.met.W.Source.itself _;
   walked = g.met.W.Source.no_walk _;
   named = none_given _ _ c.new-refs.ensures.items;
-  answer = λ p is under. rw c.new-refs.ensures.items (gone_none p c.args.names.now (ListsIt p.objects c.args.kind) (IsBackAsk c.args.kind));
+  answer = λ p is under. rw c.new-refs.ensures.items (gone_none p c.args.names.now (ListsIt p.objects c.args.kind) (IsBackAsk c.args.kind) under);
 }
 
 pub returns-clause-named : goal.returns-clause-named

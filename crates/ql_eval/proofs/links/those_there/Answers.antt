@@ -10,7 +10,7 @@ pub returns-in_err-add_there-clause-answer : goal.returns-in_err-add_there-claus
 returns-in_err-add_there-clause-answer g c = λ p is under.
     gone_stops p c.args.names.now (IsThereAs p.objects) IsObjectAsk c.loop-name.name-index _ c.loop-name-test.true (get_or_default c.args.names.now c.loop-name.name-index _ _ c.loop-name-test.true)
     _ c.from_residual.ensures.1 (λ x needs. needs) (λ x. g.met.W.Source.grows _ _ x c.add_there.ensures.later)
-    (c.loop-name.invariant.answer p is under) (c.in_err-add_there.ensures.answer p is (g.met.W.Source.same_under _ _ p c.loop-name.invariant.later under))
+    (c.loop-name.invariant.answer p is under) (λ under_now. c.in_err-add_there.ensures.answer p is under_now)
 
 pub loop-name-preserved : goal.loop-name-preserved
 loop-name-preserved g c = record {
@@ -19,7 +19,7 @@ loop-name-preserved g c = record {
   named = c.in_ok-add_there.ensures.named;
   answer = λ p is under.
       gone_next p c.args.names.now (IsThereAs p.objects) IsObjectAsk c.loop-name.name-index _ c.loop-name-test.true (get_or_default c.args.names.now c.loop-name.name-index _ _ c.loop-name-test.true)
-      (λ x. g.met.W.Source.grows _ _ x c.add_there.ensures.later) (c.loop-name.invariant.answer p is under) (c.in_ok-add_there.ensures.answer p is (g.met.W.Source.same_under _ _ p c.loop-name.invariant.later under));
+      (λ x. g.met.W.Source.grows _ _ x c.add_there.ensures.later) (c.loop-name.invariant.answer p is under) (λ under_now. c.in_ok-add_there.ensures.answer p is under_now);
 }
 
 pub returns-clause-answer : goal.returns-clause-answer
@@ -32,7 +32,7 @@ loop-name-init g c = record {
   later = c.announce_all.ensures.later;
   walked = c.announce_all.ensures.walked;
   named = none_given _ _ c.new-there.ensures.items;
-  answer = λ p is under. rw c.new-there.ensures.items (gone_same p c.args.names.now (IsThereAs p.objects) IsObjectAsk c.announce_all.ensures.used);
+  answer = λ p is under. rw c.new-there.ensures.items (gone_same p c.args.names.now (IsThereAs p.objects) IsObjectAsk c.announce_all.ensures.used (c.announce_all.ensures.truly p is under));
 }
 
 pub returns-clause-named : goal.returns-clause-named

@@ -12,5 +12,5 @@ invariant-loop-name g l = record {
   walked : g.W.Source.walked l.fn.source l.source;
   named : AllGiven (g.W.Source.gave l.source) l.there.items;
   answer : (p : Publication) → IsPublication p → g.W.Source.under l.fn.source p
-      → HasGone p l.names (IsThereAs p.objects) IsObjectAsk l.name-index [] l.there.items (uses (g.W.Source.holds l.source) (g.W.Source.used l.fn.source) (g.W.Source.used l.source));
+      → HasGone p l.names (IsThereAs p.objects) IsObjectAsk (g.W.Source.under l.source p) l.name-index [] l.there.items (uses (g.W.Source.holds l.source) (g.W.Source.used l.fn.source) (g.W.Source.used l.source));
 }

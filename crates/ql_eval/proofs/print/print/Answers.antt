@@ -2,7 +2,7 @@ use Rattle.std.proofs.Common.{◌≡◌, ◌≢◌, ◌*◌, ◌+◌, ◌≤◌,
 use Rattle.osm_model.specs.declared.reference.Ref.{Ref}
 use Rattle.osm_model.specs.declared.out_mode.OutMode.{OutMode}
 use Rattle.osm_model.specs.declared.out_mode.OutMode.TheVariants as modes
-use Rattle.tree_node.proofs.shared.OutcomeLaws.{outcome_same, outcome_starts}
+use Rattle.tree_node.proofs.shared.OutcomeLaws.{outcome_starts}
 use Rattle.ref_sets.specs.Adding.{From}
 use Rattle.osm_forms.specs.Forms.{form_text}
 use Rattle.ql_meaning.specs.Meanings.{cut, printed_of_by}
@@ -18,6 +18,7 @@ use Rattle.ref_sets.proofs.shared.Results.{on_ok_as}
 use Rattle.ql_eval.specs.Work.{step_cost}
 use Rattle.ql_eval.specs.internal.Metering.{IsCounted}
 use Rattle.ql_eval.proofs.MeterLemmas.{both_bounded, both_spent, bytes_bounded, bytes_spent, first_bounded, steps_bounded, steps_spent}
+use Rattle.ql_eval.proofs.TruthLemmas.{truly_same}
 use Rattle.ql_eval.proofs.print.print.Goals as goal
 
 pub returns-then-eq-clause-answer : goal.returns-then-eq-clause-answer
@@ -28,7 +29,7 @@ returns-then-eq-clause-answer g c = λ p is under there.
     let ids : c.args.mode ≡ modes.Ids = search rules in
     let text : name_lines c.args.form c.first_of-first.result.now ≡ printed_of_by (form_text c.args.form) p.objects refs c.args.mode limit =
     ap (name_lines c.args.form) first ∙ printed_names c.args.form p.objects refs limit is.set c.as_slice.ensures.rising there ∙ ap (λ (m : OutMode). printed_of_by (form_text c.args.form) p.objects refs m limit) (sym ids) in
-    outcome_starts (subst (λ (bytes : List ℕ). HasWritten (g.T.Sink.stands c.args.sink.now) (g.T.Sink.stands c.print_names.new.sink) bytes) text c.in_ok-print_names.ensures.written)
+    outcome_starts (subst (λ (bytes : List ℕ). HasWritten (g.T.Sink.stands c.args.sink.now) (g.T.Sink.stands c.print_names.new.sink) bytes) text c.in_ok-print_names.ensures.written, under)
     (λ x needs. subst (λ (m : OutMode). AskedByOut refs m limit needs.ask) ids needs.asked)
 
 pub returns-clause-answer : goal.returns-clause-answer
@@ -39,7 +40,7 @@ returns-clause-answer g c = λ p is under there.
     let first = c.first_of-first.ensures ∙ ap (cut limit) c.as_slice.ensures.value in
     let other : mode ≢ modes.Ids = search rules in
     let text : lines_at c.args.form p.objects mode c.first_of-first.result.now ≡ printed_of_by (form_text c.args.form) p.objects refs mode limit = ap (lines_at c.args.form p.objects mode) first ∙ printed_objects c.args.form p.objects refs mode limit is.set c.as_slice.ensures.rising there in
-    outcome_same
+    truly_same
     (needed_as (λ ask asked. asks_out refs mode limit other ask (subst (λ (rs : List Ref). From rs IsObjectAsk ask) first asked)))
     (λ value so. needed_as (λ ask asked. subst (λ (rs : List Ref). From rs IsObjectAsk ask) (sym first) (out_asks refs mode limit other ask asked)))
     (λ value so. subst (λ (bytes : List ℕ). HasWritten (g.T.Sink.stands c.args.sink.now) (g.T.Sink.stands c.print_objects.new.sink) bytes) text so)

@@ -10,7 +10,7 @@ use Rattle.ref_sets.proofs.shared.Adding.{none}
 use Rattle.ql_eval.proofs.PrintLemmas.{printed_all, printed_next, printed_same, printed_stops}
 use Rattle.ql_eval.proofs.WritingLemmas.{written_none, written_then}
 use Rattle.ql_eval.specs.internal.Metering.{IsCounted}
-use Rattle.ql_eval.proofs.MeterLemmas.{clear_before, lines_counted, lines_stop, none_counted}
+use Rattle.ql_eval.proofs.MeterLemmas.{clear_before, found_well, lines_counted, lines_stop, none_counted}
 use Rattle.ql_eval.proofs.print.print_objects.Goals as goal
 
 pub returns-in_err-print_object-clause-wrote : goal.returns-in_err-print_object-clause-wrote
@@ -20,7 +20,7 @@ pub returns-in_err-print_object-clause-answer : goal.returns-in_err-print_object
 returns-in_err-print_object-clause-answer g c = λ p is under there.
     printed_stops p c.args.names.now IsObjectAsk (line_at c.args.form p.objects c.args.mode) c.loop-name.name-index _ c.loop-name-test.true (get_or_default c.args.names.now c.loop-name.name-index _ _ c.loop-name-test.true)
     _ c.from_residual.ensures.1 (λ x. g.met.W.Source.grows _ _ x c.print_object.ensures.later)
-    (c.loop-name.invariant.answer p is under there) (c.in_err-print_object.ensures.answer p is (g.met.W.Source.same_under _ _ p c.loop-name.invariant.later under) (there _ (Contains-get_or c.args.names.now c.loop-name.name-index _ c.loop-name-test.true)))
+    (c.loop-name.invariant.answer p is under there) (λ under_now. c.in_err-print_object.ensures.answer p is under_now (there _ (Contains-get_or c.args.names.now c.loop-name.name-index _ c.loop-name-test.true)))
 
 pub loop-name-init : goal.loop-name-init
 loop-name-init g c = record {
@@ -29,7 +29,7 @@ loop-name-init g c = record {
   kept = refl;
   wrote = ([], written_none);
   there = λ r among. absurd (none r among);
-  answer = λ p is under there. printed_same p c.args.names.now IsObjectAsk (line_at c.args.form p.objects c.args.mode) c.announce_all.ensures.used;
+  answer = λ p is under there. printed_same p c.args.names.now IsObjectAsk (line_at c.args.form p.objects c.args.mode) c.announce_all.ensures.used (c.announce_all.ensures.truly p is under);
   counted = λ p is under there clear. none_counted c.args.meter.now.spent;
 }
 
@@ -42,11 +42,13 @@ loop-name-preserved g c = record {
   there = known_more IsKnownThere there_later _ _ c.args.names.now c.loop-name.name-index _ c.loop-name-test.true (λ r o. g.met.W.Source.same_known _ _ r o c.print_object.ensures.later) c.loop-name.invariant.there c.in_ok-print_object.ensures.there;
   answer = λ p is under there.
       printed_next p c.args.names.now IsObjectAsk (line_at c.args.form p.objects c.args.mode) c.loop-name.name-index _ c.loop-name-test.true (get_or_default c.args.names.now c.loop-name.name-index _ _ c.loop-name-test.true)
-      (λ x. g.met.W.Source.grows _ _ x c.print_object.ensures.later) (c.loop-name.invariant.answer p is under there) (c.in_ok-print_object.ensures.answer p is (g.met.W.Source.same_under _ _ p c.loop-name.invariant.later under) (there _ (Contains-get_or c.args.names.now c.loop-name.name-index _ c.loop-name-test.true)));
+      (λ x. g.met.W.Source.grows _ _ x c.print_object.ensures.later) (c.loop-name.invariant.answer p is under there) (λ under_now. c.in_ok-print_object.ensures.answer p is under_now (there _ (Contains-get_or c.args.names.now c.loop-name.name-index _ c.loop-name-test.true)));
   counted = λ p is under there clear.
+      let early = clear_before (λ x. g.met.W.Source.grows _ _ x c.print_object.ensures.later) clear in
+      let so = found_well (λ x used. used) early (c.loop-name.invariant.answer p is under there) in
       lines_counted (line_at c.args.form p.objects c.args.mode) c.args.names.now c.loop-name.name-index _ c.loop-name-test.true (get_or_default c.args.names.now c.loop-name.name-index _ _ c.loop-name-test.true) _ _ _
-      (c.loop-name.invariant.counted p is under there (clear_before (λ x. g.met.W.Source.grows _ _ x c.print_object.ensures.later) clear))
-      (c.in_ok-print_object.ensures.spent p is (g.met.W.Source.same_under _ _ p c.loop-name.invariant.later under) (there _ (Contains-get_or c.args.names.now c.loop-name.name-index _ c.loop-name-test.true)) clear);
+      (c.loop-name.invariant.counted p is under there early)
+      (c.in_ok-print_object.ensures.spent p is so.1 (there _ (Contains-get_or c.args.names.now c.loop-name.name-index _ c.loop-name-test.true)) clear);
 }
 
 pub returns-clause-answer : goal.returns-clause-answer
@@ -61,9 +63,11 @@ print_object-requires g c = g.met.W.Source.same_gave _ _ _ c.loop-name.invariant
 
 pub returns-in_err-print_object-clause-bounded : goal.returns-in_err-print_object-clause-bounded
 returns-in_err-print_object-clause-bounded g c = λ p is under there clear.
+    let early = clear_before (λ x. g.met.W.Source.grows _ _ x c.print_object.ensures.later) clear in
+    let so = found_well (λ x used. used) early (c.loop-name.invariant.answer p is under there) in
     lines_stop (line_at c.args.form p.objects c.args.mode) c.args.names.now c.loop-name.name-index _ c.loop-name-test.true (get_or_default c.args.names.now c.loop-name.name-index _ _ c.loop-name-test.true) _ _ _
-    (c.loop-name.invariant.counted p is under there (clear_before (λ x. g.met.W.Source.grows _ _ x c.print_object.ensures.later) clear))
-    (c.print_object.ensures.bounded p is (g.met.W.Source.same_under _ _ p c.loop-name.invariant.later under) (there _ (Contains-get_or c.args.names.now c.loop-name.name-index _ c.loop-name-test.true)) clear)
+    (c.loop-name.invariant.counted p is under there early)
+    (c.print_object.ensures.bounded p is so.1 (there _ (Contains-get_or c.args.names.now c.loop-name.name-index _ c.loop-name-test.true)) clear)
 
 pub returns-clause-bounded : goal.returns-clause-bounded
 returns-clause-bounded g c = λ p is under there clear.

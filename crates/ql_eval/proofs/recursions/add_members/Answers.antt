@@ -1,12 +1,13 @@
 use Rattle.std.proofs.Common.{◌++◌, List, inl, refl, ap, ◌∙◌}
 use Rattle.osm_model.specs.declared.kind.Kind.TheVariants as kinds
 use Rattle.osm_model.specs.declared.reference.Ref.{Ref}
-use Rattle.tree_node.proofs.shared.OutcomeLaws.{outcome_stops, outcome_then, outcome_then_stops, memory_stops}
+use Rattle.tree_node.proofs.shared.OutcomeLaws.{outcome_stops, memory_stops}
 use Rattle.ql_eval.proofs.EachLemmas.{needed_as}
 use Rattle.ql_eval.proofs.RecursionLemmas.{inner_needs, members_added, members_split, of_one, ways_there}
 use Rattle.ql_eval.proofs.GivenLemmas.{all_appended, all_later, part_given}
 use Rattle.ql_eval.proofs.ExitLemmas.{no_value}
 use Rattle.ql_eval.proofs.StepLemmas.{refused_as}
+use Rattle.ql_eval.proofs.TruthLemmas.{truly_then, truly_then_stops}
 use Rattle.ql_eval.proofs.recursions.add_members.Goals as goal
 
 pub members_there-requires : goal.members_there-requires
@@ -37,10 +38,10 @@ returns-in_err-inner g c =
           let members = c.in_ok-members.members in
           let ways = c.of_kinds-ways.result.now in
           let are = of_one ways members kinds.Way c.of_kinds-ways.ensures.members in
-          outcome_then_stops _ end.ensures.1 refl (λ x. g.met.W.Source.grows _ _ x c.members_there-2.ensures.later)
+          truly_then_stops _ end.ensures.1 refl (λ x. g.met.W.Source.grows _ _ x c.members_there-2.ensures.later)
           (needed_as (λ ask asked. inl asked)) (λ so. inner_needs p c.args.relations.now members ways so are)
           (c.in_ok-members.ensures.answer p is under there)
-          (λ so. c.in_err-inner.ensures.answer p is (g.met.W.Source.same_under _ _ p c.in_ok-members.ensures.later under) (ways_there p c.args.relations.now members ways so are));
+          (λ so under_now. c.in_err-inner.ensures.answer p is under_now (ways_there p c.args.relations.now members ways so are));
     }
 
 pub returns-in_err-extend_from_slice : goal.returns-in_err-extend_from_slice
@@ -86,9 +87,9 @@ returns-clause-answer g c = λ p is under there.
     let members = c.in_ok-members.members in
     let ways = c.of_kinds-ways.result.now in
     let are = of_one ways members kinds.Way c.of_kinds-ways.ensures.members in
-    outcome_then (λ x. g.met.W.Source.grows _ _ x c.members_there-2.ensures.later)
+    truly_then (λ x. g.met.W.Source.grows _ _ x c.members_there-2.ensures.later)
     (needed_as (λ ask asked. inl asked)) (λ so. inner_needs p c.args.relations.now members ways so are) (λ so inner. members_split p c.args.relations.now members ways so are)
     (λ so inner. members_added p c.args.relations.now members ways so are c.in_ok-inner.inner _ _ _ inner (c.in_ok-extend_from_slice.ensures.items ∙ ap (λ (l : List Ref). c.args.refs.now.items ++ l) c.as_slice.ensures.value)
     (c.in_ok-extend_from_slice-2.ensures.items ∙ ap (λ (l : List Ref). c.extend_from_slice.new.self.items ++ l) c.as_slice-2.ensures.value))
     (c.in_ok-members.ensures.answer p is under there)
-    (λ so. c.in_ok-inner.ensures.answer p is (g.met.W.Source.same_under _ _ p c.in_ok-members.ensures.later under) (ways_there p c.args.relations.now members ways so are))
+    (λ so under_now. c.in_ok-inner.ensures.answer p is under_now (ways_there p c.args.relations.now members ways so are))

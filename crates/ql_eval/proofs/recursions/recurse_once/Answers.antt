@@ -48,7 +48,7 @@ returns-in-Some-clause-answer g c = λ p is under there.
     let how = c.args.how in
     let refs = c.in-Some.refs.now.value in
     recalled_again p how c.args.set.value refs c.in_ok-clone.field-0 _
-    (λ so. subst (λ (l : List Ref). IsSetOf l (IsRefOf p.objects (IsReached p.objects how c.args.set.value))) (sym c.in_ok-clone.ensures.cases) so)
+    (λ so. (subst (λ (l : List Ref). IsSetOf l (IsRefOf p.objects (IsReached p.objects how c.args.set.value))) (sym c.in_ok-clone.ensures.cases) so, under))
     (subst (λ (s : List Ref). IsRecalled p (g.W.Source.used c.args.source.now) how s refs) c.deref.ensures
     (g.met.W.Source.recalled_true _ p how c.deref.result.now refs c.in-Some.ensures is under (subst (λ (s : List Ref). AreThere p.objects s) (sym c.deref.ensures) there)))
 
@@ -106,13 +106,7 @@ returns-in_err-clone-2 g c =
 pub returns-in_err-remember : goal.returns-in_err-remember
 returns-in_err-remember g c =
     let end = c.from_residual-in_err-remember in record {
-      later =
-          c.remember.ensures.later c.args.source.now c.recurse.ensures.later (λ p is under there.
-          let how = c.args.how in
-          let shelf = uses (g.W.Source.holds c.recurse.new.source) (g.W.Source.used c.args.source.now) (g.W.Source.used c.recurse.new.source) in
-          recalled_now p how c.args.set.value c.in_ok-clone-2.field-0.value (c.in_ok-clone-2.ensures.cases ∙ c.in_ok-refs.ensures.ok)
-          (subst (λ (l : List Ref). RecursedWell p how l shelf (Ok c.in_ok-recurse.field-0)) c.deref-2.ensures
-          (c.in_ok-recurse.ensures.answer p is under (subst (λ (l : List Ref). AreThere p.objects l) (sym c.deref-2.ensures) there))));
+      later = g.met.W.Source.chained _ _ _ c.recurse.ensures.later c.remember.ensures.later;
       walked = no_value end.result _ _ end.ensures.1;
       told = refused_as _ end.result _ end.ensures.1 (g.met.W.Source.out_of_memory _);
       named = no_value end.result _ _ end.ensures.1;
@@ -126,31 +120,27 @@ pub remember-requires : goal.remember-requires
 remember-requires g c = subst (λ (l : List Ref). AllGiven (g.W.Source.gave c.recurse.new.source) l) (sym (c.in_ok-clone-2.ensures.cases ∙ c.in_ok-refs.ensures.ok)) c.in_ok-recurse.ensures.named
 
 pub returns-clause-later : goal.returns-clause-later
-returns-clause-later g c =
-    c.remember.ensures.later c.args.source.now c.recurse.ensures.later (λ p is under there.
-    let how = c.args.how in
-    let shelf = uses (g.W.Source.holds c.recurse.new.source) (g.W.Source.used c.args.source.now) (g.W.Source.used c.recurse.new.source) in
-    recalled_now p how c.args.set.value c.in_ok-clone-2.field-0.value (c.in_ok-clone-2.ensures.cases ∙ c.in_ok-refs.ensures.ok)
-    (subst (λ (l : List Ref). RecursedWell p how l shelf (Ok c.in_ok-recurse.field-0)) c.deref-2.ensures
-    (c.in_ok-recurse.ensures.answer p is under (subst (λ (l : List Ref). AreThere p.objects l) (sym c.deref-2.ensures) there))))
+returns-clause-later g c = g.met.W.Source.chained _ _ _ c.recurse.ensures.later c.remember.ensures.later
 
 pub returns-clause-walked : goal.returns-clause-walked
-returns-clause-walked g c = c.remember.ensures.walked c.args.source.now c.in_ok-recurse.ensures.walked
+returns-clause-walked g c = g.met.W.Source.more_walks _ _ _ c.recurse.ensures.later c.remember.ensures.later c.in_ok-recurse.ensures.walked c.remember.ensures.walked
 
 pub returns-clause-told : goal.returns-clause-told
 returns-clause-told g c = tt
 
 pub returns-clause-named : goal.returns-clause-named
-returns-clause-named g c = λ r has. c.remember.ensures.given r (c.in_ok-recurse.ensures.named r (subst (λ (l : List Ref). Contains l r) c.in_ok-refs.ensures.ok has))
+returns-clause-named g c = λ r has. g.met.W.Source.same_gave _ _ r c.remember.ensures.later (c.in_ok-recurse.ensures.named r (subst (λ (l : List Ref). Contains l r) c.in_ok-refs.ensures.ok has))
 
 pub returns-clause-answer : goal.returns-clause-answer
 returns-clause-answer g c = λ p is under there.
     let how = c.args.how in
+    let set = c.args.set.value in
     let shelf = uses (g.W.Source.holds c.recurse.new.source) (g.W.Source.used c.args.source.now) (g.W.Source.used c.recurse.new.source) in
-    outcome_kept (λ x has. (c.remember.ensures.same x).1 has) (λ x has. (c.remember.ensures.same x).0 has)
-    (λ so. subst (λ (l : List Ref). IsSetOf l (IsRefOf p.objects (IsReached p.objects how c.args.set.value))) (sym c.in_ok-refs.ensures.ok) so)
-    (subst (λ (l : List Ref). RecursedWell p how l shelf (Ok c.in_ok-recurse.field-0)) c.deref-2.ensures
-    (c.in_ok-recurse.ensures.answer p is under (subst (λ (l : List Ref). AreThere p.objects l) (sym c.deref-2.ensures) there)))
+    let asked = subst (λ (l : List Ref). RecursedWell p how l (g.W.Source.under c.recurse.new.source p) shelf (Ok c.in_ok-recurse.field-0)) c.deref-2.ensures
+    (c.in_ok-recurse.ensures.answer p is under (subst (λ (l : List Ref). AreThere p.objects l) (sym c.deref-2.ensures) there)) in
+    let kept = recalled_now p how set c.in_ok-clone-2.field-0.value (c.in_ok-clone-2.ensures.cases ∙ c.in_ok-refs.ensures.ok) asked in
+    outcome_kept (λ x has. (c.remember.ensures.used x).1 has) (λ x has. (c.remember.ensures.used x).0 has)
+    (λ so. (subst (λ (l : List Ref). IsSetOf l (IsRefOf p.objects (IsReached p.objects how set))) (sym c.in_ok-refs.ensures.ok) so.0, c.remember.ensures.truly p is so.1 (λ there. kept))) asked
 
 pub returns-clause-bounded : goal.returns-clause-bounded
 returns-clause-bounded g c = λ p is under there clear.

@@ -1,7 +1,7 @@
 use Rattle.std.proofs.Common.{◌≡◌, ℕ, List, ◌++◌, ◌+◌, ◌*◌, Ok, Err, drop, length, take, refl, sym, ap, subst, ◌∙◌}
 use Rattle.std.specs.List.{AllByRecursion}
 use Rattle.osm_model.specs.declared.reference.Ref.{Ref}
-use Rattle.tree_node.proofs.shared.OutcomeLaws.{memory_stops, outcome_as, outcome_starts, outcome_stops, outcome_then, outcome_then_stops, uses}
+use Rattle.tree_node.proofs.shared.OutcomeLaws.{memory_stops, outcome_starts, outcome_stops, uses}
 use Rattle.ql_syntax.proofs.shared.StatementTrees.{union_is}
 use Rattle.ql_syntax.specs.LawfulQueries.{Allows}
 use Rattle.ql_syntax.specs.StatementViews.{filters_of, statement_of, statements_of}
@@ -30,6 +30,7 @@ use Rattle.ql_eval.proofs.MeterLemmas.{bounded_as, clear_before, found_well, goi
 use Rattle.ql_syntax.specs.Statements.{Recurse, Statement}
 use Rattle.ql_eval.specs.Absences.{HasIdOf, IsAskedById}
 use Rattle.ql_eval.proofs.AbsenceLemmas.{part_asked, union_asked}
+use Rattle.ql_eval.proofs.TruthLemmas.{truly_as, truly_then, truly_then_stops}
 use Rattle.ql_eval.proofs.run.+run.Goals as goal
 
 -- ---- a query statement
@@ -106,7 +107,7 @@ run-returns-in_ok-write_shared-in-Select-clause-answer g t c = λ p is under kno
     let refs = c.in_ok-refs-in-Select.refs.value in
     let filters = c.deref.ensures.value in
     let lawful = subst (λ (fs : List Filter). AllByRecursion (Allows kind) (filters_of fs)) (sym filters) (can_run_as same can) in
-    outcome_as (λ x needs. needs_as same p env x (subst (λ (fs : List Filter). NeededBy p (AskedBySelect p env kind (filters_of fs)) x) filters needs))
+    truly_as (λ x needs. needs_as same p env x (subst (λ (fs : List Filter). NeededBy p (AskedBySelect p env kind (filters_of fs)) x) filters needs))
     (λ so x needs. subst (λ (fs : List Filter). NeededBy p (AskedBySelect p env kind (filters_of fs)) x) (sym filters) (as_needs same p env x needs))
     (λ so. (
       after_as same p.objects _ _ (
@@ -245,7 +246,7 @@ run-returns-in_ok-write_shared-in-Recurse-clause-answer g t c = λ p is under kn
     let how = c.in-Recurse.how in
     let refs = c.in_ok-refs-in-Recurse.refs.value in
     let set = c.in_ok-set-in-Recurse.ensures ∙ ap env c.as_bytes-in-Recurse.ensures in
-    outcome_as (λ x needs. needs_as same p env x (subst (λ (l : List Ref). NeededBy p (AskedByRecursion p.objects how l) x) set needs))
+    truly_as (λ x needs. needs_as same p env x (subst (λ (l : List Ref). NeededBy p (AskedByRecursion p.objects how l) x) set needs))
     (λ so x needs. subst (λ (l : List Ref). NeededBy p (AskedByRecursion p.objects how l) x) (sym set) (as_needs same p env x needs))
     (λ so. (
       after_as same p.objects _ _ (
@@ -331,7 +332,7 @@ run-returns-in_ok-write_shared-in-Item-clause-answer g t c = λ p is under known
     let refs = c.in_ok-refs-in-Item.refs.value in
     let set = c.in_ok-refs-in-Item.ensures ∙ ap env c.as_bytes-in-Item.ensures in
     outcome_starts
-    (after_as same p.objects _ _ (c.in_ok-write_shared-in-Item.ensures ∙ ap (λ (name : List ℕ). put name refs env) c.as_bytes-in-Item-2.ensures ∙ ap (λ (l : List Ref). put c.in-Item.into l env) set), known)
+    ((after_as same p.objects _ _ (c.in_ok-write_shared-in-Item.ensures ∙ ap (λ (name : List ℕ). put name refs env) c.as_bytes-in-Item-2.ensures ∙ ap (λ (l : List Ref). put c.in-Item.into l env) set), known), under)
     (λ x needs. (as_needs same p env x needs).asked)
 
 pub run-returns-in_ok-write_shared-in-Item-clause-bounded : goal.run-returns-in_ok-write_shared-in-Item-clause-bounded
@@ -361,7 +362,7 @@ run-returns-in_err-given-in-Union g t c =
           let same = ap statement_of c.in-Union.is ∙ union_is c.in-Union.parts c.in-Union.into in
           let parts = subst (λ (ps : List Stmt). CanRunAll (statements_of ps)) (sym c.deref-in-Union-2.ensures.value) (can_run_as same can) in
           outcome_stops _ end.ensures.1 refl (needs_as same p env)
-          (subst (λ (ps : List Stmt). RanAllWell p (statements_of ps) env (lists_of c.run_all.new.sets.named.items) (AreAnswers p (g.W.Source.used c.run_all.new.source) c.run_all.new.memo.remembered.items) (uses (g.W.Source.holds c.run_all.new.source) (g.W.Source.used c.args.source.now) (g.W.Source.used c.run_all.new.source)) (Err c.in_err-given-in-Union.field-0.0)) c.deref-in-Union-2.ensures.value
+          (subst (λ (ps : List Stmt). RanAllWell p (statements_of ps) env (lists_of c.run_all.new.sets.named.items) (AreAnswers p (g.W.Source.used c.run_all.new.source) c.run_all.new.memo.remembered.items) (g.W.Source.under c.run_all.new.source p) (uses (g.W.Source.holds c.run_all.new.source) (g.W.Source.used c.args.source.now) (g.W.Source.used c.run_all.new.source)) (Err c.in_err-given-in-Union.field-0.0)) c.deref-in-Union-2.ensures.value
           (c.in_err-given-in-Union.ensures.answer p is under known there parts));
       in_row = λ tell p is under known there can clear.
           let env = lists_of c.args.sets.now.named.items in
@@ -434,9 +435,9 @@ run-returns-in_ok-write-in-Union-clause-answer g t c = λ p is under known there
     let parts = subst (λ (ps : List Stmt). CanRunAll (statements_of ps)) (sym c.deref-in-Union-2.ensures.value) (can_run_as same can) in
     let given = c.in_ok-given-in-Union.given in
     let refs = c.in_ok-refs-in-Union.refs in
-    outcome_as (needs_as same p env) (λ so. as_needs same p env)
+    truly_as (needs_as same p env) (λ so. as_needs same p env)
     (λ so. (after_as same p.objects _ _ (mid, given.items, so.0, (refs, c.in_ok-refs-in-Union.ensures, c.in_ok-write-in-Union.ensures ∙ ap (λ (name : List ℕ). put name refs mid) c.as_bytes-in-Union.ensures)), so.1))
-    (subst (λ (ps : List Stmt). RanAllWell p (statements_of ps) env mid (AreAnswers p (g.W.Source.used c.run_all.new.source) c.run_all.new.memo.remembered.items) (uses (g.W.Source.holds c.run_all.new.source) (g.W.Source.used c.args.source.now) (g.W.Source.used c.run_all.new.source)) (Ok given)) c.deref-in-Union-2.ensures.value
+    (subst (λ (ps : List Stmt). RanAllWell p (statements_of ps) env mid (AreAnswers p (g.W.Source.used c.run_all.new.source) c.run_all.new.memo.remembered.items) (g.W.Source.under c.run_all.new.source p) (uses (g.W.Source.holds c.run_all.new.source) (g.W.Source.used c.args.source.now) (g.W.Source.used c.run_all.new.source)) (Ok given)) c.deref-in-Union-2.ensures.value
     (c.in_ok-given-in-Union.ensures.answer p is under known there parts))
 
 pub run-returns-in_ok-write-in-Union-clause-bounded : goal.run-returns-in_ok-write-in-Union-clause-bounded
@@ -531,7 +532,7 @@ run-returns-in_err-charge_run-in-Minus g t c =
           let first = subst (λ (s : Stmt). CanRun (statement_of s)) (sym c.deref-in-Minus.ensures) both.0 in
           let ran = subst (λ (s : Stmt). IsBounded (WorkOf tell p (statement_of s) env) c.args.meter.now.spent c.run.new.meter.spent) c.deref-in-Minus.ensures (c.in_ok-run-in-Minus.ensures.bounded tell p is under known there first clear) in
           let mid = lists_of c.run.new.sets.named.items in
-          let so = found_well (λ x used. used) clear (subst (λ (s : Stmt). RanWell p (statement_of s) env mid (AreAnswers p (g.W.Source.used c.run.new.source) c.run.new.memo.remembered.items) (uses (g.W.Source.holds c.run.new.source) (g.W.Source.used c.args.source.now) (g.W.Source.used c.run.new.source)) (Ok c.in_ok-run-in-Minus.field-0)) c.deref-in-Minus.ensures (c.in_ok-run-in-Minus.ensures.answer p is under known there first)) in
+          let so = (found_well (λ x used. used) clear (subst (λ (s : Stmt). RanWell p (statement_of s) env mid (AreAnswers p (g.W.Source.used c.run.new.source) c.run.new.memo.remembered.items) (g.W.Source.under c.run.new.source p) (uses (g.W.Source.holds c.run.new.source) (g.W.Source.used c.args.source.now) (g.W.Source.used c.run.new.source)) (Ok c.in_ok-run-in-Minus.field-0)) c.deref-in-Minus.ensures (c.in_ok-run-in-Minus.ensures.answer p is under known there first))).0 in
           let given : c.deref-in-Minus-3.result.now ≡ given_by (statement_of left) mid = c.deref-in-Minus-3.ensures ∙ c.in_ok-first-in-Minus.ensures ∙ ap (λ (s : Stmt). given_by (statement_of s) mid) c.deref-in-Minus-2.ensures in
           stops_as same tell p env _ _ (row_bounded p.objects (statement_of left) env mid c.deref-in-Minus-3.result.now so.0 given _ _ _ _ c.charge_run.ensures ran (still _ _));
       bounded = no_value end.result _ _ end.ensures.1;
@@ -555,12 +556,12 @@ run-returns-in_err-run-in-Minus-2 g t c =
           let both = can_run_as same can in
           let first = subst (λ (s : Stmt). CanRun (statement_of s)) (sym c.deref-in-Minus.ensures) both.0 in
           let second = subst (λ (s : Stmt). CanRun (statement_of s)) (sym c.deref-in-Minus-4.ensures) both.1 in
-          outcome_then_stops _ end.ensures.1 refl (λ x. g.met.W.Source.grows _ _ x c.run-in-Minus.ensures.later)
+          truly_then_stops _ end.ensures.1 refl (λ x. g.met.W.Source.grows _ _ x c.run-in-Minus.ensures.later)
           (λ x needs. needs_as same p env x (left_needs p (statement_of left) (statement_of right) c.in-Minus.into env x needs))
           (λ so x needs. needs_as same p env x (right_needs p (statement_of left) (statement_of right) c.in-Minus.into env mid so.0 x needs))
-          (subst (λ (s : Stmt). RanWell p (statement_of s) env mid (AreAnswers p (g.W.Source.used c.run.new.source) c.run.new.memo.remembered.items) (uses (g.W.Source.holds c.run.new.source) (g.W.Source.used c.args.source.now) (g.W.Source.used c.run.new.source)) (Ok c.in_ok-run-in-Minus.field-0)) c.deref-in-Minus.ensures (c.in_ok-run-in-Minus.ensures.answer p is under known there first))
-          (λ so. subst (λ (s : Stmt). RanWell p (statement_of s) mid (lists_of c.run-in-Minus.new.sets.named.items) (AreAnswers p (g.W.Source.used c.run-in-Minus.new.source) c.run-in-Minus.new.memo.remembered.items) (uses (g.W.Source.holds c.run-in-Minus.new.source) (g.W.Source.used c.run.new.source) (g.W.Source.used c.run-in-Minus.new.source)) (Err c.in_err-run-in-Minus-2.field-0.0)) c.deref-in-Minus-4.ensures
-          (c.in_err-run-in-Minus-2.ensures.answer p is (g.met.W.Source.same_under _ _ p c.in_ok-run-in-Minus.ensures.later under) so.1 (after_there p.objects (statement_of left) env mid so.0 there) second));
+          (subst (λ (s : Stmt). RanWell p (statement_of s) env mid (AreAnswers p (g.W.Source.used c.run.new.source) c.run.new.memo.remembered.items) (g.W.Source.under c.run.new.source p) (uses (g.W.Source.holds c.run.new.source) (g.W.Source.used c.args.source.now) (g.W.Source.used c.run.new.source)) (Ok c.in_ok-run-in-Minus.field-0)) c.deref-in-Minus.ensures (c.in_ok-run-in-Minus.ensures.answer p is under known there first))
+          (λ so under_now. subst (λ (s : Stmt). RanWell p (statement_of s) mid (lists_of c.run-in-Minus.new.sets.named.items) (AreAnswers p (g.W.Source.used c.run-in-Minus.new.source) c.run-in-Minus.new.memo.remembered.items) (g.W.Source.under c.run-in-Minus.new.source p) (uses (g.W.Source.holds c.run-in-Minus.new.source) (g.W.Source.used c.run.new.source) (g.W.Source.used c.run-in-Minus.new.source)) (Err c.in_err-run-in-Minus-2.field-0.0)) c.deref-in-Minus-4.ensures
+          (c.in_err-run-in-Minus-2.ensures.answer p is under_now so.1 (after_there p.objects (statement_of left) env mid so.0 there) second));
       in_row = λ tell p is under known there can clear.
           let env = lists_of c.args.sets.now.named.items in
           let left = c.in-Minus.left.value in
@@ -571,11 +572,10 @@ run-returns-in_err-run-in-Minus-2 g t c =
           let early = clear_before (λ x. g.met.W.Source.grows _ _ x c.run-in-Minus.ensures.later) clear in
           let ran = subst (λ (s : Stmt). IsBounded (WorkOf tell p (statement_of s) env) c.args.meter.now.spent c.run.new.meter.spent) c.deref-in-Minus.ensures (c.in_ok-run-in-Minus.ensures.bounded tell p is under known there first early) in
           let mid = lists_of c.run.new.sets.named.items in
-          let so = found_well (λ x used. used) early (subst (λ (s : Stmt). RanWell p (statement_of s) env mid (AreAnswers p (g.W.Source.used c.run.new.source) c.run.new.memo.remembered.items) (uses (g.W.Source.holds c.run.new.source) (g.W.Source.used c.args.source.now) (g.W.Source.used c.run.new.source)) (Ok c.in_ok-run-in-Minus.field-0)) c.deref-in-Minus.ensures (c.in_ok-run-in-Minus.ensures.answer p is under known there first)) in
+          let (so, under_too) = found_well (λ x used. used) early (subst (λ (s : Stmt). RanWell p (statement_of s) env mid (AreAnswers p (g.W.Source.used c.run.new.source) c.run.new.memo.remembered.items) (g.W.Source.under c.run.new.source p) (uses (g.W.Source.holds c.run.new.source) (g.W.Source.used c.args.source.now) (g.W.Source.used c.run.new.source)) (Ok c.in_ok-run-in-Minus.field-0)) c.deref-in-Minus.ensures (c.in_ok-run-in-Minus.ensures.answer p is under known there first)) in
           let given : c.deref-in-Minus-3.result.now ≡ given_by (statement_of left) mid = c.deref-in-Minus-3.ensures ∙ c.in_ok-first-in-Minus.ensures ∙ ap (λ (s : Stmt). given_by (statement_of s) mid) c.deref-in-Minus-2.ensures in
           let second = subst (λ (s : Stmt). CanRun (statement_of s)) (sym c.deref-in-Minus-4.ensures) both.1 in
           let there_too = after_there p.objects (statement_of left) env mid so.0 there in
-          let under_too = g.met.W.Source.same_under _ _ p c.in_ok-run-in-Minus.ensures.later under in
           let ran_too = subst (λ (s : Stmt). IsBounded (WorkOfLast tell p (statement_of s) mid) c.charge_run.new.self.spent c.run-in-Minus.new.meter.spent) c.deref-in-Minus-4.ensures (c.run-in-Minus.ensures.in_row tell p is under_too so.1 there_too second clear) in
           stops_as same tell p env _ _ (row_bounded p.objects (statement_of left) env mid c.deref-in-Minus-3.result.now so.0 given _ _ _ _ c.charge_run.ensures ran (last_stops tell p (statement_of right) mid _ _ ran_too));
       bounded = no_value end.result _ _ end.ensures.1;
@@ -601,18 +601,17 @@ run-returns-in_err-charge_run-in-Minus-2 g t c =
           let early = clear_before (λ x. g.met.W.Source.grows _ _ x c.run-in-Minus.ensures.later) clear in
           let ran = subst (λ (s : Stmt). IsBounded (WorkOf tell p (statement_of s) env) c.args.meter.now.spent c.run.new.meter.spent) c.deref-in-Minus.ensures (c.in_ok-run-in-Minus.ensures.bounded tell p is under known there first early) in
           let mid = lists_of c.run.new.sets.named.items in
-          let so = found_well (λ x used. used) early (subst (λ (s : Stmt). RanWell p (statement_of s) env mid (AreAnswers p (g.W.Source.used c.run.new.source) c.run.new.memo.remembered.items) (uses (g.W.Source.holds c.run.new.source) (g.W.Source.used c.args.source.now) (g.W.Source.used c.run.new.source)) (Ok c.in_ok-run-in-Minus.field-0)) c.deref-in-Minus.ensures (c.in_ok-run-in-Minus.ensures.answer p is under known there first)) in
+          let (so, under_too) = found_well (λ x used. used) early (subst (λ (s : Stmt). RanWell p (statement_of s) env mid (AreAnswers p (g.W.Source.used c.run.new.source) c.run.new.memo.remembered.items) (g.W.Source.under c.run.new.source p) (uses (g.W.Source.holds c.run.new.source) (g.W.Source.used c.args.source.now) (g.W.Source.used c.run.new.source)) (Ok c.in_ok-run-in-Minus.field-0)) c.deref-in-Minus.ensures (c.in_ok-run-in-Minus.ensures.answer p is under known there first)) in
           let given : c.deref-in-Minus-3.result.now ≡ given_by (statement_of left) mid = c.deref-in-Minus-3.ensures ∙ c.in_ok-first-in-Minus.ensures ∙ ap (λ (s : Stmt). given_by (statement_of s) mid) c.deref-in-Minus-2.ensures in
           let second = subst (λ (s : Stmt). CanRun (statement_of s)) (sym c.deref-in-Minus-4.ensures) both.1 in
           let there_too = after_there p.objects (statement_of left) env mid so.0 there in
-          let under_too = g.met.W.Source.same_under _ _ p c.in_ok-run-in-Minus.ensures.later under in
           let ran_too = subst (λ (s : Stmt). IsBounded (WorkOf tell p (statement_of s) mid) c.charge_run.new.self.spent c.run-in-Minus.new.meter.spent) c.deref-in-Minus-4.ensures (c.in_ok-run-in-Minus-2.ensures.bounded tell p is under_too so.1 there_too second clear) in
           let end = lists_of c.run-in-Minus.new.sets.named.items in
-          let so_too = found_well (λ x used. used) clear (subst (λ (s : Stmt). RanWell p (statement_of s) mid end (AreAnswers p (g.W.Source.used c.run-in-Minus.new.source) c.run-in-Minus.new.memo.remembered.items) (uses (g.W.Source.holds c.run-in-Minus.new.source) (g.W.Source.used c.run.new.source) (g.W.Source.used c.run-in-Minus.new.source)) (Ok c.in_ok-run-in-Minus-2.field-0)) c.deref-in-Minus-4.ensures
+          let so_too = found_well (λ x used. used) clear (subst (λ (s : Stmt). RanWell p (statement_of s) mid end (AreAnswers p (g.W.Source.used c.run-in-Minus.new.source) c.run-in-Minus.new.memo.remembered.items) (g.W.Source.under c.run-in-Minus.new.source p) (uses (g.W.Source.holds c.run-in-Minus.new.source) (g.W.Source.used c.run.new.source) (g.W.Source.used c.run-in-Minus.new.source)) (Ok c.in_ok-run-in-Minus-2.field-0)) c.deref-in-Minus-4.ensures
           (c.in_ok-run-in-Minus-2.ensures.answer p is under_too so.1 there_too second)) in
           let given_too : c.written_by-second.result.now ≡ given_by (statement_of right) end = c.written_by-second.ensures ∙ ap (λ (s : Stmt). given_by (statement_of s) end) c.deref-in-Minus-5.ensures in
           stops_as same tell p env _ _ (row_bounded p.objects (statement_of left) env mid c.deref-in-Minus-3.result.now so.0 given _ _ _ _ c.charge_run.ensures ran
-          (row_bounded p.objects (statement_of right) mid end c.written_by-second.result.now so_too.0 given_too _ _ _ _ c.charge_run-in-Minus.ensures ran_too (still _ _)));
+          (row_bounded p.objects (statement_of right) mid end c.written_by-second.result.now so_too.0.0 given_too _ _ _ _ c.charge_run-in-Minus.ensures ran_too (still _ _)));
       bounded = no_value end.result _ _ end.ensures.1;
       spent = no_value end.result _ _ end.ensures.1;
     }
@@ -636,18 +635,17 @@ run-returns-in_err-refs-in-Minus g t c =
           let early = clear_before (λ x. g.met.W.Source.grows _ _ x c.run-in-Minus.ensures.later) clear in
           let ran = subst (λ (s : Stmt). IsBounded (WorkOf tell p (statement_of s) env) c.args.meter.now.spent c.run.new.meter.spent) c.deref-in-Minus.ensures (c.in_ok-run-in-Minus.ensures.bounded tell p is under known there first early) in
           let mid = lists_of c.run.new.sets.named.items in
-          let so = found_well (λ x used. used) early (subst (λ (s : Stmt). RanWell p (statement_of s) env mid (AreAnswers p (g.W.Source.used c.run.new.source) c.run.new.memo.remembered.items) (uses (g.W.Source.holds c.run.new.source) (g.W.Source.used c.args.source.now) (g.W.Source.used c.run.new.source)) (Ok c.in_ok-run-in-Minus.field-0)) c.deref-in-Minus.ensures (c.in_ok-run-in-Minus.ensures.answer p is under known there first)) in
+          let (so, under_too) = found_well (λ x used. used) early (subst (λ (s : Stmt). RanWell p (statement_of s) env mid (AreAnswers p (g.W.Source.used c.run.new.source) c.run.new.memo.remembered.items) (g.W.Source.under c.run.new.source p) (uses (g.W.Source.holds c.run.new.source) (g.W.Source.used c.args.source.now) (g.W.Source.used c.run.new.source)) (Ok c.in_ok-run-in-Minus.field-0)) c.deref-in-Minus.ensures (c.in_ok-run-in-Minus.ensures.answer p is under known there first)) in
           let given : c.deref-in-Minus-3.result.now ≡ given_by (statement_of left) mid = c.deref-in-Minus-3.ensures ∙ c.in_ok-first-in-Minus.ensures ∙ ap (λ (s : Stmt). given_by (statement_of s) mid) c.deref-in-Minus-2.ensures in
           let second = subst (λ (s : Stmt). CanRun (statement_of s)) (sym c.deref-in-Minus-4.ensures) both.1 in
           let there_too = after_there p.objects (statement_of left) env mid so.0 there in
-          let under_too = g.met.W.Source.same_under _ _ p c.in_ok-run-in-Minus.ensures.later under in
           let ran_too = subst (λ (s : Stmt). IsBounded (WorkOf tell p (statement_of s) mid) c.charge_run.new.self.spent c.run-in-Minus.new.meter.spent) c.deref-in-Minus-4.ensures (c.in_ok-run-in-Minus-2.ensures.bounded tell p is under_too so.1 there_too second clear) in
           let end = lists_of c.run-in-Minus.new.sets.named.items in
-          let so_too = found_well (λ x used. used) clear (subst (λ (s : Stmt). RanWell p (statement_of s) mid end (AreAnswers p (g.W.Source.used c.run-in-Minus.new.source) c.run-in-Minus.new.memo.remembered.items) (uses (g.W.Source.holds c.run-in-Minus.new.source) (g.W.Source.used c.run.new.source) (g.W.Source.used c.run-in-Minus.new.source)) (Ok c.in_ok-run-in-Minus-2.field-0)) c.deref-in-Minus-4.ensures
+          let so_too = found_well (λ x used. used) clear (subst (λ (s : Stmt). RanWell p (statement_of s) mid end (AreAnswers p (g.W.Source.used c.run-in-Minus.new.source) c.run-in-Minus.new.memo.remembered.items) (g.W.Source.under c.run-in-Minus.new.source p) (uses (g.W.Source.holds c.run-in-Minus.new.source) (g.W.Source.used c.run.new.source) (g.W.Source.used c.run-in-Minus.new.source)) (Ok c.in_ok-run-in-Minus-2.field-0)) c.deref-in-Minus-4.ensures
           (c.in_ok-run-in-Minus-2.ensures.answer p is under_too so.1 there_too second)) in
           let given_too : c.written_by-second.result.now ≡ given_by (statement_of right) end = c.written_by-second.ensures ∙ ap (λ (s : Stmt). given_by (statement_of s) end) c.deref-in-Minus-5.ensures in
           stops_as same tell p env _ _ (row_bounded p.objects (statement_of left) env mid c.deref-in-Minus-3.result.now so.0 given _ _ _ _ c.charge_run.ensures ran
-          (row_bounded p.objects (statement_of right) mid end c.written_by-second.result.now so_too.0 given_too _ _ _ _ c.charge_run-in-Minus.ensures ran_too (still _ _)));
+          (row_bounded p.objects (statement_of right) mid end c.written_by-second.result.now so_too.0.0 given_too _ _ _ _ c.charge_run-in-Minus.ensures ran_too (still _ _)));
       bounded = no_value end.result _ _ end.ensures.1;
       spent = no_value end.result _ _ end.ensures.1;
     }
@@ -671,18 +669,17 @@ run-returns-in_err-write-in-Minus g t c =
           let early = clear_before (λ x. g.met.W.Source.grows _ _ x c.run-in-Minus.ensures.later) clear in
           let ran = subst (λ (s : Stmt). IsBounded (WorkOf tell p (statement_of s) env) c.args.meter.now.spent c.run.new.meter.spent) c.deref-in-Minus.ensures (c.in_ok-run-in-Minus.ensures.bounded tell p is under known there first early) in
           let mid = lists_of c.run.new.sets.named.items in
-          let so = found_well (λ x used. used) early (subst (λ (s : Stmt). RanWell p (statement_of s) env mid (AreAnswers p (g.W.Source.used c.run.new.source) c.run.new.memo.remembered.items) (uses (g.W.Source.holds c.run.new.source) (g.W.Source.used c.args.source.now) (g.W.Source.used c.run.new.source)) (Ok c.in_ok-run-in-Minus.field-0)) c.deref-in-Minus.ensures (c.in_ok-run-in-Minus.ensures.answer p is under known there first)) in
+          let (so, under_too) = found_well (λ x used. used) early (subst (λ (s : Stmt). RanWell p (statement_of s) env mid (AreAnswers p (g.W.Source.used c.run.new.source) c.run.new.memo.remembered.items) (g.W.Source.under c.run.new.source p) (uses (g.W.Source.holds c.run.new.source) (g.W.Source.used c.args.source.now) (g.W.Source.used c.run.new.source)) (Ok c.in_ok-run-in-Minus.field-0)) c.deref-in-Minus.ensures (c.in_ok-run-in-Minus.ensures.answer p is under known there first)) in
           let given : c.deref-in-Minus-3.result.now ≡ given_by (statement_of left) mid = c.deref-in-Minus-3.ensures ∙ c.in_ok-first-in-Minus.ensures ∙ ap (λ (s : Stmt). given_by (statement_of s) mid) c.deref-in-Minus-2.ensures in
           let second = subst (λ (s : Stmt). CanRun (statement_of s)) (sym c.deref-in-Minus-4.ensures) both.1 in
           let there_too = after_there p.objects (statement_of left) env mid so.0 there in
-          let under_too = g.met.W.Source.same_under _ _ p c.in_ok-run-in-Minus.ensures.later under in
           let ran_too = subst (λ (s : Stmt). IsBounded (WorkOf tell p (statement_of s) mid) c.charge_run.new.self.spent c.run-in-Minus.new.meter.spent) c.deref-in-Minus-4.ensures (c.in_ok-run-in-Minus-2.ensures.bounded tell p is under_too so.1 there_too second clear) in
           let end = lists_of c.run-in-Minus.new.sets.named.items in
-          let so_too = found_well (λ x used. used) clear (subst (λ (s : Stmt). RanWell p (statement_of s) mid end (AreAnswers p (g.W.Source.used c.run-in-Minus.new.source) c.run-in-Minus.new.memo.remembered.items) (uses (g.W.Source.holds c.run-in-Minus.new.source) (g.W.Source.used c.run.new.source) (g.W.Source.used c.run-in-Minus.new.source)) (Ok c.in_ok-run-in-Minus-2.field-0)) c.deref-in-Minus-4.ensures
+          let so_too = found_well (λ x used. used) clear (subst (λ (s : Stmt). RanWell p (statement_of s) mid end (AreAnswers p (g.W.Source.used c.run-in-Minus.new.source) c.run-in-Minus.new.memo.remembered.items) (g.W.Source.under c.run-in-Minus.new.source p) (uses (g.W.Source.holds c.run-in-Minus.new.source) (g.W.Source.used c.run.new.source) (g.W.Source.used c.run-in-Minus.new.source)) (Ok c.in_ok-run-in-Minus-2.field-0)) c.deref-in-Minus-4.ensures
           (c.in_ok-run-in-Minus-2.ensures.answer p is under_too so.1 there_too second)) in
           let given_too : c.written_by-second.result.now ≡ given_by (statement_of right) end = c.written_by-second.ensures ∙ ap (λ (s : Stmt). given_by (statement_of s) end) c.deref-in-Minus-5.ensures in
           stops_as same tell p env _ _ (row_bounded p.objects (statement_of left) env mid c.deref-in-Minus-3.result.now so.0 given _ _ _ _ c.charge_run.ensures ran
-          (row_bounded p.objects (statement_of right) mid end c.written_by-second.result.now so_too.0 given_too _ _ _ _ c.charge_run-in-Minus.ensures ran_too (still _ _)));
+          (row_bounded p.objects (statement_of right) mid end c.written_by-second.result.now so_too.0.0 given_too _ _ _ _ c.charge_run-in-Minus.ensures ran_too (still _ _)));
       bounded = no_value end.result _ _ end.ensures.1;
       spent = no_value end.result _ _ end.ensures.1;
     }
@@ -726,7 +723,7 @@ run-returns-in_ok-write-in-Minus-clause-answer g t c = λ p is under known there
     let first_is : firsts ≡ given_by (statement_of left) mid =
     c.deref-in-Minus-6.ensures ∙ c.in_ok-first-in-Minus.ensures ∙ ap (λ (s : Stmt). given_by (statement_of s) mid) c.deref-in-Minus-2.ensures in
     let second_is = c.written_by-second.ensures ∙ ap (λ (s : Stmt). given_by (statement_of s) end) c.deref-in-Minus-5.ensures in
-    outcome_then (λ x. g.met.W.Source.grows _ _ x c.run-in-Minus.ensures.later)
+    truly_then (λ x. g.met.W.Source.grows _ _ x c.run-in-Minus.ensures.later)
     (λ x needs. needs_as same p env x (left_needs p (statement_of left) (statement_of right) c.in-Minus.into env x needs))
     (λ so x needs. needs_as same p env x (right_needs p (statement_of left) (statement_of right) c.in-Minus.into env mid so.0 x needs))
     (λ so two x needs. minus_splits p (statement_of left) (statement_of right) c.in-Minus.into env mid so.0 x (as_needs same p env x needs))
@@ -735,9 +732,9 @@ run-returns-in_ok-write-in-Minus-clause-answer g t c = λ p is under known there
           (c.in_ok-write-in-Minus.ensures ∙ ap (λ (name : List ℕ). put name refs end) c.as_bytes-in-Minus.ensures)),
       two.1,
     ))
-    (subst (λ (s : Stmt). RanWell p (statement_of s) env mid (AreAnswers p (g.W.Source.used c.run.new.source) c.run.new.memo.remembered.items) (uses (g.W.Source.holds c.run.new.source) (g.W.Source.used c.args.source.now) (g.W.Source.used c.run.new.source)) (Ok c.in_ok-run-in-Minus.field-0)) c.deref-in-Minus.ensures (c.in_ok-run-in-Minus.ensures.answer p is under known there first))
-    (λ so. subst (λ (s : Stmt). RanWell p (statement_of s) mid end (AreAnswers p (g.W.Source.used c.run-in-Minus.new.source) c.run-in-Minus.new.memo.remembered.items) (uses (g.W.Source.holds c.run-in-Minus.new.source) (g.W.Source.used c.run.new.source) (g.W.Source.used c.run-in-Minus.new.source)) (Ok c.in_ok-run-in-Minus-2.field-0)) c.deref-in-Minus-4.ensures
-    (c.in_ok-run-in-Minus-2.ensures.answer p is (g.met.W.Source.same_under _ _ p c.in_ok-run-in-Minus.ensures.later under) so.1 (after_there p.objects (statement_of left) env mid so.0 there) second))
+    (subst (λ (s : Stmt). RanWell p (statement_of s) env mid (AreAnswers p (g.W.Source.used c.run.new.source) c.run.new.memo.remembered.items) (g.W.Source.under c.run.new.source p) (uses (g.W.Source.holds c.run.new.source) (g.W.Source.used c.args.source.now) (g.W.Source.used c.run.new.source)) (Ok c.in_ok-run-in-Minus.field-0)) c.deref-in-Minus.ensures (c.in_ok-run-in-Minus.ensures.answer p is under known there first))
+    (λ so under_now. subst (λ (s : Stmt). RanWell p (statement_of s) mid end (AreAnswers p (g.W.Source.used c.run-in-Minus.new.source) c.run-in-Minus.new.memo.remembered.items) (g.W.Source.under c.run-in-Minus.new.source p) (uses (g.W.Source.holds c.run-in-Minus.new.source) (g.W.Source.used c.run.new.source) (g.W.Source.used c.run-in-Minus.new.source)) (Ok c.in_ok-run-in-Minus-2.field-0)) c.deref-in-Minus-4.ensures
+    (c.in_ok-run-in-Minus-2.ensures.answer p is under_now so.1 (after_there p.objects (statement_of left) env mid so.0 there) second))
 
 pub run-returns-in_ok-write-in-Minus-clause-bounded : goal.run-returns-in_ok-write-in-Minus-clause-bounded
 run-returns-in_ok-write-in-Minus-clause-bounded g t c = λ tell p is under known there can clear.
@@ -750,18 +747,17 @@ run-returns-in_ok-write-in-Minus-clause-bounded g t c = λ tell p is under known
     let early = clear_before (λ x. g.met.W.Source.grows _ _ x c.run-in-Minus.ensures.later) clear in
     let ran = subst (λ (s : Stmt). IsBounded (WorkOf tell p (statement_of s) env) c.args.meter.now.spent c.run.new.meter.spent) c.deref-in-Minus.ensures (c.in_ok-run-in-Minus.ensures.bounded tell p is under known there first early) in
     let mid = lists_of c.run.new.sets.named.items in
-    let so = found_well (λ x used. used) early (subst (λ (s : Stmt). RanWell p (statement_of s) env mid (AreAnswers p (g.W.Source.used c.run.new.source) c.run.new.memo.remembered.items) (uses (g.W.Source.holds c.run.new.source) (g.W.Source.used c.args.source.now) (g.W.Source.used c.run.new.source)) (Ok c.in_ok-run-in-Minus.field-0)) c.deref-in-Minus.ensures (c.in_ok-run-in-Minus.ensures.answer p is under known there first)) in
+    let (so, under_too) = found_well (λ x used. used) early (subst (λ (s : Stmt). RanWell p (statement_of s) env mid (AreAnswers p (g.W.Source.used c.run.new.source) c.run.new.memo.remembered.items) (g.W.Source.under c.run.new.source p) (uses (g.W.Source.holds c.run.new.source) (g.W.Source.used c.args.source.now) (g.W.Source.used c.run.new.source)) (Ok c.in_ok-run-in-Minus.field-0)) c.deref-in-Minus.ensures (c.in_ok-run-in-Minus.ensures.answer p is under known there first)) in
     let given : c.deref-in-Minus-3.result.now ≡ given_by (statement_of left) mid = c.deref-in-Minus-3.ensures ∙ c.in_ok-first-in-Minus.ensures ∙ ap (λ (s : Stmt). given_by (statement_of s) mid) c.deref-in-Minus-2.ensures in
     let second = subst (λ (s : Stmt). CanRun (statement_of s)) (sym c.deref-in-Minus-4.ensures) both.1 in
     let there_too = after_there p.objects (statement_of left) env mid so.0 there in
-    let under_too = g.met.W.Source.same_under _ _ p c.in_ok-run-in-Minus.ensures.later under in
     let ran_too = subst (λ (s : Stmt). IsBounded (WorkOf tell p (statement_of s) mid) c.charge_run.new.self.spent c.run-in-Minus.new.meter.spent) c.deref-in-Minus-4.ensures (c.in_ok-run-in-Minus-2.ensures.bounded tell p is under_too so.1 there_too second clear) in
     let end = lists_of c.run-in-Minus.new.sets.named.items in
-    let so_too = found_well (λ x used. used) clear (subst (λ (s : Stmt). RanWell p (statement_of s) mid end (AreAnswers p (g.W.Source.used c.run-in-Minus.new.source) c.run-in-Minus.new.memo.remembered.items) (uses (g.W.Source.holds c.run-in-Minus.new.source) (g.W.Source.used c.run.new.source) (g.W.Source.used c.run-in-Minus.new.source)) (Ok c.in_ok-run-in-Minus-2.field-0)) c.deref-in-Minus-4.ensures
+    let so_too = found_well (λ x used. used) clear (subst (λ (s : Stmt). RanWell p (statement_of s) mid end (AreAnswers p (g.W.Source.used c.run-in-Minus.new.source) c.run-in-Minus.new.memo.remembered.items) (g.W.Source.under c.run-in-Minus.new.source p) (uses (g.W.Source.holds c.run-in-Minus.new.source) (g.W.Source.used c.run.new.source) (g.W.Source.used c.run-in-Minus.new.source)) (Ok c.in_ok-run-in-Minus-2.field-0)) c.deref-in-Minus-4.ensures
     (c.in_ok-run-in-Minus-2.ensures.answer p is under_too so.1 there_too second)) in
     let given_too : c.written_by-second.result.now ≡ given_by (statement_of right) end = c.written_by-second.ensures ∙ ap (λ (s : Stmt). given_by (statement_of s) end) c.deref-in-Minus-5.ensures in
     bounded_as same tell p env _ _ (row_bounded p.objects (statement_of left) env mid c.deref-in-Minus-3.result.now so.0 given _ _ _ _ c.charge_run.ensures ran
-    (row_bounded p.objects (statement_of right) mid end c.written_by-second.result.now so_too.0 given_too _ _ _ _ c.charge_run-in-Minus.ensures ran_too (still _ _)))
+    (row_bounded p.objects (statement_of right) mid end c.written_by-second.result.now so_too.0.0 given_too _ _ _ _ c.charge_run-in-Minus.ensures ran_too (still _ _)))
 
 pub run-returns-in_ok-write-in-Minus-clause-in_row : goal.run-returns-in_ok-write-in-Minus-clause-in_row
 run-returns-in_ok-write-in-Minus-clause-in_row g t c = λ tell p is under known there can clear.
@@ -778,18 +774,17 @@ run-returns-in_ok-write-in-Minus-clause-spent g t c = λ tell p is under known t
     let early = clear_before (λ x. g.met.W.Source.grows _ _ x c.run-in-Minus.ensures.later) clear in
     let ran = subst (λ (s : Stmt). IsSpent (WorkOf tell p (statement_of s) env) c.args.meter.now.spent c.run.new.meter.spent) c.deref-in-Minus.ensures (c.in_ok-run-in-Minus.ensures.spent tell p is under known there first early) in
     let mid = lists_of c.run.new.sets.named.items in
-    let so = found_well (λ x used. used) early (subst (λ (s : Stmt). RanWell p (statement_of s) env mid (AreAnswers p (g.W.Source.used c.run.new.source) c.run.new.memo.remembered.items) (uses (g.W.Source.holds c.run.new.source) (g.W.Source.used c.args.source.now) (g.W.Source.used c.run.new.source)) (Ok c.in_ok-run-in-Minus.field-0)) c.deref-in-Minus.ensures (c.in_ok-run-in-Minus.ensures.answer p is under known there first)) in
+    let (so, under_too) = found_well (λ x used. used) early (subst (λ (s : Stmt). RanWell p (statement_of s) env mid (AreAnswers p (g.W.Source.used c.run.new.source) c.run.new.memo.remembered.items) (g.W.Source.under c.run.new.source p) (uses (g.W.Source.holds c.run.new.source) (g.W.Source.used c.args.source.now) (g.W.Source.used c.run.new.source)) (Ok c.in_ok-run-in-Minus.field-0)) c.deref-in-Minus.ensures (c.in_ok-run-in-Minus.ensures.answer p is under known there first)) in
     let given : c.deref-in-Minus-3.result.now ≡ given_by (statement_of left) mid = c.deref-in-Minus-3.ensures ∙ c.in_ok-first-in-Minus.ensures ∙ ap (λ (s : Stmt). given_by (statement_of s) mid) c.deref-in-Minus-2.ensures in
     let second = subst (λ (s : Stmt). CanRun (statement_of s)) (sym c.deref-in-Minus-4.ensures) both.1 in
     let there_too = after_there p.objects (statement_of left) env mid so.0 there in
-    let under_too = g.met.W.Source.same_under _ _ p c.in_ok-run-in-Minus.ensures.later under in
     let ran_too = subst (λ (s : Stmt). IsSpent (WorkOf tell p (statement_of s) mid) c.charge_run.new.self.spent c.run-in-Minus.new.meter.spent) c.deref-in-Minus-4.ensures (c.in_ok-run-in-Minus-2.ensures.spent tell p is under_too so.1 there_too second clear) in
     let end = lists_of c.run-in-Minus.new.sets.named.items in
-    let so_too = found_well (λ x used. used) clear (subst (λ (s : Stmt). RanWell p (statement_of s) mid end (AreAnswers p (g.W.Source.used c.run-in-Minus.new.source) c.run-in-Minus.new.memo.remembered.items) (uses (g.W.Source.holds c.run-in-Minus.new.source) (g.W.Source.used c.run.new.source) (g.W.Source.used c.run-in-Minus.new.source)) (Ok c.in_ok-run-in-Minus-2.field-0)) c.deref-in-Minus-4.ensures
+    let so_too = found_well (λ x used. used) clear (subst (λ (s : Stmt). RanWell p (statement_of s) mid end (AreAnswers p (g.W.Source.used c.run-in-Minus.new.source) c.run-in-Minus.new.memo.remembered.items) (g.W.Source.under c.run-in-Minus.new.source p) (uses (g.W.Source.holds c.run-in-Minus.new.source) (g.W.Source.used c.run.new.source) (g.W.Source.used c.run-in-Minus.new.source)) (Ok c.in_ok-run-in-Minus-2.field-0)) c.deref-in-Minus-4.ensures
     (c.in_ok-run-in-Minus-2.ensures.answer p is under_too so.1 there_too second)) in
     let given_too : c.written_by-second.result.now ≡ given_by (statement_of right) end = c.written_by-second.ensures ∙ ap (λ (s : Stmt). given_by (statement_of s) end) c.deref-in-Minus-5.ensures in
     spent_as same tell p env _ _ (row_spent p.objects (statement_of left) env mid c.deref-in-Minus-3.result.now so.0 given _ _ _ _ c.charge_run.ensures ran
-    (row_spent p.objects (statement_of right) mid end c.written_by-second.result.now so_too.0 given_too _ _ _ _ c.charge_run-in-Minus.ensures ran_too (nothing_spent _)))
+    (row_spent p.objects (statement_of right) mid end c.written_by-second.result.now so_too.0.0 given_too _ _ _ _ c.charge_run-in-Minus.ensures ran_too (nothing_spent _)))
 
 -- ---- an out, which is never run
 
@@ -841,10 +836,10 @@ run_all-returns-in_err-run g t c =
           let parts = c.args.parts.now in
           let k = c.loop-part.part-index in
           let part = c.part-item.result in
-          outcome_then_stops _ end.ensures.1 refl (λ x. g.met.W.Source.grows _ _ x c.run.ensures.later) (parts_all p env parts k)
+          truly_then_stops _ end.ensures.1 refl (λ x. g.met.W.Source.grows _ _ x c.run.ensures.later) (parts_all p env parts k)
           (λ so. part_all p env parts k part c.loop-part-test.true c.part-item.is mid c.loop-part.given.items so.0)
           (c.loop-part.invariant.answer p is under known there can)
-          (λ so. c.in_err-run.ensures.answer p is (g.met.W.Source.same_under _ _ p c.loop-part.invariant.later under) so.1 (after_all_there p.objects (statements_of (take k parts)) env mid c.loop-part.given.items so.0 there).0
+          (λ so under_now. c.in_err-run.ensures.answer p is under_now so.1 (after_all_there p.objects (statements_of (take k parts)) env mid c.loop-part.given.items so.0 there).0
           (one_lawful parts k part c.loop-part-test.true c.part-item.is can));
       bounded = λ tell p is under known there can clear.
           let env = lists_of c.args.sets.now.named.items in
@@ -854,9 +849,8 @@ run_all-returns-in_err-run g t c =
           let part = c.part-item.result in
           let early = clear_before (λ x. g.met.W.Source.grows _ _ x c.run.ensures.later) clear in
           let going = going_at tell p parts env k mid _ _ part c.loop-part-test.true c.part-item.is (c.loop-part.invariant.going tell p is under known there can early) in
-          let so = found_well (λ x used. used) early (c.loop-part.invariant.answer p is under known there can) in
+          let (so, under_now) = found_well (λ x used. used) early (c.loop-part.invariant.answer p is under known there can) in
           let there_now = (after_all_there p.objects (statements_of (take k parts)) env mid c.loop-part.given.items so.0 there).0 in
-          let under_now = g.met.W.Source.same_under _ _ p c.loop-part.invariant.later under in
           let can_now = one_lawful parts k part c.loop-part-test.true c.part-item.is can in
           let first = c.run.ensures.in_row tell p is under_now so.1 there_now can_now clear in
           going_stops tell p (statements_of parts) env (statement_of part) (statements_of (drop (k + 1) parts)) mid _ _ _ going first;
@@ -881,13 +875,12 @@ run_all-returns-in_err-charge_run g t c =
           let part = c.part-item.result in
           let early = clear_before (λ x. g.met.W.Source.grows _ _ x c.run.ensures.later) clear in
           let going = going_at tell p parts env k mid _ _ part c.loop-part-test.true c.part-item.is (c.loop-part.invariant.going tell p is under known there can early) in
-          let so = found_well (λ x used. used) early (c.loop-part.invariant.answer p is under known there can) in
+          let (so, under_now) = found_well (λ x used. used) early (c.loop-part.invariant.answer p is under known there can) in
           let there_now = (after_all_there p.objects (statements_of (take k parts)) env mid c.loop-part.given.items so.0 there).0 in
-          let under_now = g.met.W.Source.same_under _ _ p c.loop-part.invariant.later under in
           let can_now = one_lawful parts k part c.loop-part-test.true c.part-item.is can in
           let first = c.in_ok-run.ensures.bounded tell p is under_now so.1 there_now can_now clear in
           let after = found_well (λ x used. used) clear (c.in_ok-run.ensures.answer p is under_now so.1 there_now can_now) in
-          let next = going_next tell p (statements_of parts) env (statement_of part) (statements_of (drop (k + 1) parts)) mid _ _ _ going (lists_of c.run.new.sets.named.items) c.written_by-written.result.now _ after.0 c.written_by-written.ensures c.charge_run.ensures first (c.in_ok-run.ensures.spent tell p is under_now so.1 there_now can_now clear) in
+          let next = going_next tell p (statements_of parts) env (statement_of part) (statements_of (drop (k + 1) parts)) mid _ _ _ going (lists_of c.run.new.sets.named.items) c.written_by-written.result.now _ after.0.0 c.written_by-written.ensures c.charge_run.ensures first (c.in_ok-run.ensures.spent tell p is under_now so.1 there_now can_now clear) in
           going_bounded tell p (statements_of parts) env (statements_of (drop (k + 1) parts)) (lists_of c.run.new.sets.named.items) _ _ next;
       spent = no_value end.result _ _ end.ensures.1;
     }
@@ -910,13 +903,12 @@ run_all-returns-in_err-extend_from_slice g t c =
           let part = c.part-item.result in
           let early = clear_before (λ x. g.met.W.Source.grows _ _ x c.run.ensures.later) clear in
           let going = going_at tell p parts env k mid _ _ part c.loop-part-test.true c.part-item.is (c.loop-part.invariant.going tell p is under known there can early) in
-          let so = found_well (λ x used. used) early (c.loop-part.invariant.answer p is under known there can) in
+          let (so, under_now) = found_well (λ x used. used) early (c.loop-part.invariant.answer p is under known there can) in
           let there_now = (after_all_there p.objects (statements_of (take k parts)) env mid c.loop-part.given.items so.0 there).0 in
-          let under_now = g.met.W.Source.same_under _ _ p c.loop-part.invariant.later under in
           let can_now = one_lawful parts k part c.loop-part-test.true c.part-item.is can in
           let first = c.in_ok-run.ensures.bounded tell p is under_now so.1 there_now can_now clear in
           let after = found_well (λ x used. used) clear (c.in_ok-run.ensures.answer p is under_now so.1 there_now can_now) in
-          let next = going_next tell p (statements_of parts) env (statement_of part) (statements_of (drop (k + 1) parts)) mid _ _ _ going (lists_of c.run.new.sets.named.items) c.written_by-written.result.now _ after.0 c.written_by-written.ensures c.charge_run.ensures first (c.in_ok-run.ensures.spent tell p is under_now so.1 there_now can_now clear) in
+          let next = going_next tell p (statements_of parts) env (statement_of part) (statements_of (drop (k + 1) parts)) mid _ _ _ going (lists_of c.run.new.sets.named.items) c.written_by-written.result.now _ after.0.0 c.written_by-written.ensures c.charge_run.ensures first (c.in_ok-run.ensures.spent tell p is under_now so.1 there_now can_now clear) in
           going_bounded tell p (statements_of parts) env (statements_of (drop (k + 1) parts)) (lists_of c.run.new.sets.named.items) _ _ next;
       spent = no_value end.result _ _ end.ensures.1;
     }
@@ -937,7 +929,7 @@ run_all-loop-part-preserved g t c = record {
       let k = c.loop-part.part-index in
       let part = c.part-item.result in
       let given = c.loop-part.given.items in
-      outcome_then (λ x. g.met.W.Source.grows _ _ x c.run.ensures.later) (parts_front p env parts k part c.loop-part-test.true c.part-item.is)
+      truly_then (λ x. g.met.W.Source.grows _ _ x c.run.ensures.later) (parts_front p env parts k part c.loop-part-test.true c.part-item.is)
       (λ so. part_needs p env parts k part c.loop-part-test.true c.part-item.is mid given so.0) (λ so one. parts_split p env parts k part c.loop-part-test.true c.part-item.is mid given so.0)
       (λ so one. (
         after_next p.objects parts k part c.loop-part-test.true c.part-item.is env mid (lists_of c.run.new.sets.named.items) given _ so.0 one.0
@@ -945,7 +937,7 @@ run_all-loop-part-preserved g t c = record {
         one.1,
       ))
       (c.loop-part.invariant.answer p is under known there can)
-      (λ so. c.in_ok-run.ensures.answer p is (g.met.W.Source.same_under _ _ p c.loop-part.invariant.later under) so.1 (after_all_there p.objects (statements_of (take k parts)) env mid given so.0 there).0
+      (λ so under_now. c.in_ok-run.ensures.answer p is under_now so.1 (after_all_there p.objects (statements_of (take k parts)) env mid given so.0 there).0
       (one_lawful parts k part c.loop-part-test.true c.part-item.is can));
   going = λ tell p is under known there can clear.
       let env = lists_of c.args.sets.now.named.items in
@@ -955,13 +947,12 @@ run_all-loop-part-preserved g t c = record {
       let part = c.part-item.result in
       let early = clear_before (λ x. g.met.W.Source.grows _ _ x c.run.ensures.later) clear in
       let going = going_at tell p parts env k mid _ _ part c.loop-part-test.true c.part-item.is (c.loop-part.invariant.going tell p is under known there can early) in
-      let so = found_well (λ x used. used) early (c.loop-part.invariant.answer p is under known there can) in
+      let (so, under_now) = found_well (λ x used. used) early (c.loop-part.invariant.answer p is under known there can) in
       let there_now = (after_all_there p.objects (statements_of (take k parts)) env mid c.loop-part.given.items so.0 there).0 in
-      let under_now = g.met.W.Source.same_under _ _ p c.loop-part.invariant.later under in
       let can_now = one_lawful parts k part c.loop-part-test.true c.part-item.is can in
       let first = c.in_ok-run.ensures.bounded tell p is under_now so.1 there_now can_now clear in
       let after = found_well (λ x used. used) clear (c.in_ok-run.ensures.answer p is under_now so.1 there_now can_now) in
-      let next = going_next tell p (statements_of parts) env (statement_of part) (statements_of (drop (k + 1) parts)) mid _ _ _ going (lists_of c.run.new.sets.named.items) c.written_by-written.result.now _ after.0 c.written_by-written.ensures c.charge_run.ensures first (c.in_ok-run.ensures.spent tell p is under_now so.1 there_now can_now clear) in
+      let next = going_next tell p (statements_of parts) env (statement_of part) (statements_of (drop (k + 1) parts)) mid _ _ _ going (lists_of c.run.new.sets.named.items) c.written_by-written.result.now _ after.0.0 c.written_by-written.ensures c.charge_run.ensures first (c.in_ok-run.ensures.spent tell p is under_now so.1 there_now can_now clear) in
       next;
 }
 
@@ -988,7 +979,7 @@ run_all-returns-clause-answer g t c = λ p is under known there can.
     let env = lists_of c.args.sets.now.named.items in
     let parts = c.args.parts.now in
     let all : take c.loop-part.part-index parts ≡ parts = take_all c.loop-part.part-index parts c.loop-part-test.false in
-    outcome_as (parts_all p env parts c.loop-part.part-index)
+    truly_as (parts_all p env parts c.loop-part.part-index)
     (λ so x needs. subst (λ (ps : List Stmt). NeededBy p (AskedByAll p (statements_of ps) env) x) (sym all) needs)
     (λ so. (subst (λ (ps : List Stmt). AfterAll p.objects (statements_of ps) env (lists_of c.loop-part.sets.named.items) c.loop-part.given.items) all so.0, so.1))
     (c.loop-part.invariant.answer p is under known there can)

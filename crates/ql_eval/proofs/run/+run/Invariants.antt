@@ -24,7 +24,7 @@ invariant-run_all-loop-part g l = record {
   named : AllGiven (g.W.Source.gave l.source) l.given.items;
   recalled_named : AreAnswersGiven (g.W.Source.gave l.source) l.memo.remembered.items;
   answer : (p : Publication) → IsPublication p → g.W.Source.under l.fn.source p → AreAnswers p (g.W.Source.used l.fn.source) l.fn.memo.remembered.items → AreAllThere p.objects (lists_of l.fn.sets.named.items) → CanRunAll (statements_of l.parts)
-      → Outcome cause_of_evaluation (λ (_ : Unit {0}). AfterAll p.objects (statements_of (take l.part-index l.parts)) (lists_of l.fn.sets.named.items) (lists_of l.sets.named.items) l.given.items × AreAnswers p (g.W.Source.used l.source) l.memo.remembered.items)
+      → Outcome cause_of_evaluation (λ (_ : Unit {0}). (AfterAll p.objects (statements_of (take l.part-index l.parts)) (lists_of l.fn.sets.named.items) (lists_of l.sets.named.items) l.given.items × AreAnswers p (g.W.Source.used l.source) l.memo.remembered.items) × g.W.Source.under l.source p)
       (NeededBy p (AskedByAll p (statements_of (take l.part-index l.parts)) (lists_of l.fn.sets.named.items))) (uses (g.W.Source.holds l.source) (g.W.Source.used l.fn.source) (g.W.Source.used l.source)) (Ok tt);
   going : (tell : Telling) (p : Publication) → IsPublication p → g.W.Source.under l.fn.source p → AreAnswers p (g.W.Source.used l.fn.source) l.fn.memo.remembered.items → AreAllThere p.objects (lists_of l.fn.sets.named.items) → CanRunAll (statements_of l.parts) → HasNoClash p (g.W.Source.used l.source)
       → IsGoing tell p (statements_of l.parts) (lists_of l.fn.sets.named.items) (statements_of (drop l.part-index l.parts)) (lists_of l.sets.named.items) l.fn.meter.spent l.meter.spent;

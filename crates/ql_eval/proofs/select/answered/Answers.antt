@@ -9,7 +9,7 @@ use Rattle.ql_eval.specs.Asks.{AskedByBase, kind_picked}
 use Rattle.ql_eval.specs.Questions.{NeededBy}
 use Rattle.ql_eval.proofs.CandidateLemmas.{FoundWell}
 use Rattle.ql_eval.proofs.SelectLemmas.{TestedWell, base_asks, base_lawful, candidates_there, kept_set, plan_splits, tests_ask}
-use Rattle.ql_eval.proofs.StepLemmas.{refused_as, then_same}
+use Rattle.ql_eval.proofs.StepLemmas.{refused_as}
 use Rattle.ql_eval.proofs.GivenLemmas.{sets_later}
 use Rattle.osm_model.specs.declared.reference.Ref.{Ref}
 use Rattle.ql_eval.specs.Work.{WorkOfBase, step_cost}
@@ -26,6 +26,7 @@ use Rattle.ql_eval.specs.Absences.{IsAskedById}
 use Rattle.ql_eval.proofs.AbsenceLemmas.{base_asked}
 use Rattle.ql_eval.proofs.ExitLemmas.{no_value}
 use Rattle.ql_plan.specs.Plans.{never, rank_of}
+use Rattle.ql_eval.proofs.TruthLemmas.{truly_then_same}
 use Rattle.ql_eval.proofs.select.answered.Goals as goal
 
 -- how many filters a candidate is tested by
@@ -84,12 +85,12 @@ returns-in_err-charge_each g c =
           let found = c.in_ok-found.found in
           let allowed = subst (λ (b : Option Filter). ForSome b (Allows pick)) (sym c.base.ensures) (base_lawful pick plan.before plan.base plan.after lawful) in
           let first = uses (g.W.Source.holds c.find_candidates.new.source) (g.W.Source.used c.args.source.now) (g.W.Source.used c.find_candidates.new.source) in
-          let are = found_well (λ x used. used) clear (subst (λ (b : Option Filter). FoundWell p env pick b first (Ok c.in_ok-found.found)) c.base.ensures (c.in_ok-found.ensures.answer p is under there allowed)) in
+          let are = found_well (λ x used. used) clear (subst (λ (b : Option Filter). FoundWell p env pick b (g.W.Source.under c.find_candidates.new.source p) first (Ok c.in_ok-found.found)) c.base.ensures (c.in_ok-found.ensures.answer p is under there allowed)) in
           let all : length c.as_slice.result.now * (1 + length c.before-front.result.now + length c.after-back.result.now) ≡ length found * (1 + length (plan.before ++ plan.after)) =
           tested c.before-front.result.now c.after-back.result.now plan.before plan.after c.as_slice.result.now found c.as_slice.ensures.value c.before-front.ensures c.after-back.ensures in
           let counted = subst (λ (n : ℕ). IsCounted c.find_candidates.new.meter.spent c.charge_each.new.self.spent (step_cost * n)) all c.charge_each.ensures in
           let based = subst (λ (b : Option Filter). IsBounded (WorkOfBase p.objects b) c.args.meter.now.spent c.find_candidates.new.meter.spent) c.base.ensures (c.in_ok-found.ensures.read p is under there allowed clear) in
-          both_bounded _ _ _ based (set_bounded _ _ found are (steps_bounded (length found * (1 + length (plan.before ++ plan.after))) _ _ counted));
+          both_bounded _ _ _ based (set_bounded _ _ found are.0 (steps_bounded (length found * (1 + length (plan.before ++ plan.after))) _ _ counted));
       spent = no_value end.result _ _ end.ensures.1;
     }
 
@@ -121,12 +122,12 @@ returns-clause-answer g c = λ p is under there lawful.
     let first = uses (g.W.Source.holds c.find_candidates.new.source) (g.W.Source.used c.args.source.now) (g.W.Source.used c.find_candidates.new.source) in
     let second = uses (g.W.Source.holds c.apply_filters.new.source) (g.W.Source.used c.find_candidates.new.source) (g.W.Source.used c.apply_filters.new.source) in
     let rest = ap (λ (fs : List Filter). fs ++ filters_of c.after-back.result.now) c.before-front.ensures ∙ ap (λ (fs : List Filter). plan.before ++ fs) c.after-back.ensures in
-    then_same (λ x. g.met.W.Source.grows _ _ x c.apply_filters.ensures.later)
+    truly_then_same (λ x. g.met.W.Source.grows _ _ x c.apply_filters.ensures.later)
     (base_asks p env pick plan) (λ so. tests_ask p env pick plan found so) (λ so b set. plan_splits p env pick plan found so) (λ so b set. kept_set p.objects is.set env pick plan found so b set)
-    (subst (λ (b : Option Filter). FoundWell p env pick b first (Ok c.in_ok-found.found)) c.base.ensures (c.in_ok-found.ensures.answer p is under there allowed))
-    (λ so.
-    subst (λ (fs : List Filter). TestedWell p env fs found second c.apply_filters.result) rest
-    (c.apply_filters.ensures.answer p is (g.met.W.Source.same_under _ _ p c.in_ok-found.ensures.later under) (candidates_there p.objects is.set env pick plan found so) there))
+    (subst (λ (b : Option Filter). FoundWell p env pick b (g.W.Source.under c.find_candidates.new.source p) first (Ok c.in_ok-found.found)) c.base.ensures (c.in_ok-found.ensures.answer p is under there allowed))
+    (λ so under_now.
+    subst (λ (fs : List Filter). TestedWell p env fs found (g.W.Source.under c.apply_filters.new.source p) second c.apply_filters.result) rest
+    (c.apply_filters.ensures.answer p is under_now (candidates_there p.objects is.set env pick plan found so) there))
 
 pub returns-clause-bounded : goal.returns-clause-bounded
 returns-clause-bounded g c = λ p is under there lawful clear.
@@ -136,12 +137,12 @@ returns-clause-bounded g c = λ p is under there lawful clear.
     let found = c.in_ok-found.found in
     let allowed = subst (λ (b : Option Filter). ForSome b (Allows pick)) (sym c.base.ensures) (base_lawful pick plan.before plan.base plan.after lawful) in
     let first = uses (g.W.Source.holds c.find_candidates.new.source) (g.W.Source.used c.args.source.now) (g.W.Source.used c.find_candidates.new.source) in
-    let are = found_well (λ x. g.met.W.Source.grows _ _ x c.apply_filters.ensures.later) clear (subst (λ (b : Option Filter). FoundWell p env pick b first (Ok c.in_ok-found.found)) c.base.ensures (c.in_ok-found.ensures.answer p is under there allowed)) in
+    let are = found_well (λ x. g.met.W.Source.grows _ _ x c.apply_filters.ensures.later) clear (subst (λ (b : Option Filter). FoundWell p env pick b (g.W.Source.under c.find_candidates.new.source p) first (Ok c.in_ok-found.found)) c.base.ensures (c.in_ok-found.ensures.answer p is under there allowed)) in
     let all : length c.as_slice.result.now * (1 + length c.before-front.result.now + length c.after-back.result.now) ≡ length found * (1 + length (plan.before ++ plan.after)) =
     tested c.before-front.result.now c.after-back.result.now plan.before plan.after c.as_slice.result.now found c.as_slice.ensures.value c.before-front.ensures c.after-back.ensures in
     let counted = subst (λ (n : ℕ). IsCounted c.find_candidates.new.meter.spent c.charge_each.new.self.spent (step_cost * n)) all c.charge_each.ensures in
     let based = subst (λ (b : Option Filter). IsBounded (WorkOfBase p.objects b) c.args.meter.now.spent c.find_candidates.new.meter.spent) c.base.ensures (c.in_ok-found.ensures.read p is under there allowed (clear_before (λ x. g.met.W.Source.grows _ _ x c.apply_filters.ensures.later) clear)) in
-    both_bounded _ _ _ based (set_bounded _ _ found are (steps_bounded (length found * (1 + length (plan.before ++ plan.after))) _ _ counted))
+    both_bounded _ _ _ based (set_bounded _ _ found are.0 (steps_bounded (length found * (1 + length (plan.before ++ plan.after))) _ _ counted))
 
 pub returns-clause-spent : goal.returns-clause-spent
 returns-clause-spent g c = on_ok_as c.apply_filters.result (λ walked p is under there lawful clear.
@@ -151,9 +152,9 @@ returns-clause-spent g c = on_ok_as c.apply_filters.result (λ walked p is under
     let found = c.in_ok-found.found in
     let allowed = subst (λ (b : Option Filter). ForSome b (Allows pick)) (sym c.base.ensures) (base_lawful pick plan.before plan.base plan.after lawful) in
     let first = uses (g.W.Source.holds c.find_candidates.new.source) (g.W.Source.used c.args.source.now) (g.W.Source.used c.find_candidates.new.source) in
-    let are = found_well (λ x. g.met.W.Source.grows _ _ x c.apply_filters.ensures.later) clear (subst (λ (b : Option Filter). FoundWell p env pick b first (Ok c.in_ok-found.found)) c.base.ensures (c.in_ok-found.ensures.answer p is under there allowed)) in
+    let are = found_well (λ x. g.met.W.Source.grows _ _ x c.apply_filters.ensures.later) clear (subst (λ (b : Option Filter). FoundWell p env pick b (g.W.Source.under c.find_candidates.new.source p) first (Ok c.in_ok-found.found)) c.base.ensures (c.in_ok-found.ensures.answer p is under there allowed)) in
     let all : length c.as_slice.result.now * (1 + length c.before-front.result.now + length c.after-back.result.now) ≡ length found * (1 + length (plan.before ++ plan.after)) =
     tested c.before-front.result.now c.after-back.result.now plan.before plan.after c.as_slice.result.now found c.as_slice.ensures.value c.before-front.ensures c.after-back.ensures in
     let counted = subst (λ (n : ℕ). IsCounted c.find_candidates.new.meter.spent c.charge_each.new.self.spent (step_cost * n)) all c.charge_each.ensures in
     let based = subst (λ (b : Option Filter). IsSpent (WorkOfBase p.objects b) c.args.meter.now.spent c.find_candidates.new.meter.spent) c.base.ensures (c.in_ok-found.ensures.spent p is under there allowed (clear_before (λ x. g.met.W.Source.grows _ _ x c.apply_filters.ensures.later) clear)) in
-    both_spent _ _ _ based (set_spent _ _ found are (steps_spent (length found * (1 + length (plan.before ++ plan.after))) _ _ counted))) c.apply_filters.ensures.walked
+    both_spent _ _ _ based (set_spent _ _ found are.0 (steps_spent (length found * (1 + length (plan.before ++ plan.after))) _ _ counted))) c.apply_filters.ensures.walked

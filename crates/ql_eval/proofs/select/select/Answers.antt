@@ -26,7 +26,7 @@ returns-in_err-plan-clause-answer g c = λ p is under there lawful.
     let filters = filters_of c.args.filters.now in
     outcome_stops _ c.from_residual-in_err-plan.ensures.1 refl
     (λ x needs. choice_asks p env c.args.pick filters x (subst (λ (k : Option Kind). NeededBy p (AskedByChoice k filters) x) c.kind_of.ensures needs))
-    (c.in_err-plan.ensures.answer p is under)
+    (c.in_err-plan.ensures.answer p is (g.met.W.Source.under_reads _ p under))
 
 pub returns-clause-answer : goal.returns-clause-answer
 returns-clause-answer g c = λ p is under there lawful.
@@ -39,9 +39,9 @@ returns-clause-answer g c = λ p is under there lawful.
     let first = uses (g.W.Source.holds c.choose_plan.new.source) (g.W.Source.used c.args.source.now) (g.W.Source.used c.choose_plan.new.source) in
     then_same (λ x. g.met.W.Source.grows _ _ x c.answered.ensures.later)
     (choice_asks p env pick filters) (λ chosen. chosen_asks p env pick filters one plan chosen) (λ chosen b set. select_splits p env pick filters one plan chosen)
-    (λ chosen b set. subst (λ (fs : List Filter). IsSetOf b (IsRefOf p.objects (IsSelected p.objects env pick fs))) written set)
-    (subst (λ (k : Option Kind). PlannedWell p k filters first (Ok plan)) c.kind_of.ensures (c.in_ok-plan.ensures.answer p is under))
-    (λ chosen. c.answered.ensures.answer p is (g.met.W.Source.same_under _ _ p c.in_ok-plan.ensures.later under) there (subst (λ (fs : List Filter). AllByRecursion (Allows pick) fs) (sym written) lawful))
+    (λ chosen b set. (subst (λ (fs : List Filter). IsSetOf b (IsRefOf p.objects (IsSelected p.objects env pick fs))) written set.0, set.1))
+    (subst (λ (k : Option Kind). PlannedWell p k filters first (Ok plan)) c.kind_of.ensures (c.in_ok-plan.ensures.answer p is (g.met.W.Source.under_reads _ p under)))
+    (λ chosen. c.answered.ensures.answer p is (c.in_ok-plan.ensures.truly p is under) there (subst (λ (fs : List Filter). AllByRecursion (Allows pick) fs) (sym written) lawful))
 
 pub answered-requires-clause-named : goal.answered-requires-clause-named
 answered-requires-clause-named g c = sets_later (lists_of c.args.sets.now.named.items) (λ r. g.met.W.Source.same_gave _ _ r c.choose_plan.ensures.later) c.requires.named
@@ -56,8 +56,8 @@ returns-clause-bounded g c = λ p is under there lawful clear.
     let filters = filters_of c.args.filters.now in
     let plan = c.in_ok-plan.plan in
     let first = uses (g.W.Source.holds c.choose_plan.new.source) (g.W.Source.used c.args.source.now) (g.W.Source.used c.choose_plan.new.source) in
-    let chosen = found_well (λ x. g.met.W.Source.grows _ _ x c.answered.ensures.later) clear (subst (λ (k : Option Kind). PlannedWell p k filters first (Ok plan)) c.kind_of.ensures (c.in_ok-plan.ensures.answer p is under)) in
-    both_bounded _ _ _ (steps_within _ _ _ c.charge_filters.ensures.bounded) (plan_bounded _ _ plan chosen (c.answered.ensures.bounded p is (g.met.W.Source.same_under _ _ p c.in_ok-plan.ensures.later under) there (subst (λ (fs : List Filter). AllByRecursion (Allows pick) fs) (sym c.in_ok-plan.ensures.written.0) lawful) clear))
+    let chosen = found_well (λ x. g.met.W.Source.grows _ _ x c.answered.ensures.later) clear (subst (λ (k : Option Kind). PlannedWell p k filters first (Ok plan)) c.kind_of.ensures (c.in_ok-plan.ensures.answer p is (g.met.W.Source.under_reads _ p under))) in
+    both_bounded _ _ _ (steps_within _ _ _ c.charge_filters.ensures.bounded) (plan_bounded _ _ plan chosen (c.answered.ensures.bounded p is (c.in_ok-plan.ensures.truly p is under) there (subst (λ (fs : List Filter). AllByRecursion (Allows pick) fs) (sym c.in_ok-plan.ensures.written.0) lawful) clear))
 
 pub returns-clause-spent : goal.returns-clause-spent
 returns-clause-spent g c = on_ok_as c.answered.result (λ spent p is under there lawful clear.
@@ -66,8 +66,8 @@ returns-clause-spent g c = on_ok_as c.answered.result (λ spent p is under there
     let filters = filters_of c.args.filters.now in
     let plan = c.in_ok-plan.plan in
     let first = uses (g.W.Source.holds c.choose_plan.new.source) (g.W.Source.used c.args.source.now) (g.W.Source.used c.choose_plan.new.source) in
-    let chosen = found_well (λ x. g.met.W.Source.grows _ _ x c.answered.ensures.later) clear (subst (λ (k : Option Kind). PlannedWell p k filters first (Ok plan)) c.kind_of.ensures (c.in_ok-plan.ensures.answer p is under)) in
-    both_spent _ _ _ (steps_spent _ _ _ c.in_ok-charge_filters.ensures.spent) (plan_spent _ _ plan chosen (spent p is (g.met.W.Source.same_under _ _ p c.in_ok-plan.ensures.later under) there (subst (λ (fs : List Filter). AllByRecursion (Allows pick) fs) (sym c.in_ok-plan.ensures.written.0) lawful) clear))) c.answered.ensures.spent
+    let chosen = found_well (λ x. g.met.W.Source.grows _ _ x c.answered.ensures.later) clear (subst (λ (k : Option Kind). PlannedWell p k filters first (Ok plan)) c.kind_of.ensures (c.in_ok-plan.ensures.answer p is (g.met.W.Source.under_reads _ p under))) in
+    both_spent _ _ _ (steps_spent _ _ _ c.in_ok-charge_filters.ensures.spent) (plan_spent _ _ plan chosen (spent p is (c.in_ok-plan.ensures.truly p is under) there (subst (λ (fs : List Filter). AllByRecursion (Allows pick) fs) (sym c.in_ok-plan.ensures.written.0) lawful) clear))) c.answered.ensures.spent
 
 pub returns-in_err-charge_filters-clause-bounded : goal.returns-in_err-charge_filters-clause-bounded
 returns-in_err-charge_filters-clause-bounded g c = λ p is under there lawful clear. first_bounded _ _ (steps_within _ _ _ c.charge_filters.ensures.bounded)

@@ -64,8 +64,11 @@ returns-then-not-remembers-clause-answer g c = λ p is under known there lawful.
     let env = lists_of c.args.sets.now.named.items in
     let filters = filters_of c.args.filters.now in
     outcome_used (λ so all. (
-      subst (λ (l : List Ref). IsSetOf l (IsRefOf p.objects (IsSelected p.objects env c.args.pick filters))) (sym c.in_ok-new.ensures.ok) so,
-      recalled_later p (g.W.Source.used c.args.source.now) (g.W.Source.used c.select.new.source) c.args.memo.now.remembered.items (λ x. g.met.W.Source.grows _ _ x c.select.ensures.later) known,
+      (
+        subst (λ (l : List Ref). IsSetOf l (IsRefOf p.objects (IsSelected p.objects env c.args.pick filters))) (sym c.in_ok-new.ensures.ok) so.0,
+        recalled_later p (g.W.Source.used c.args.source.now) (g.W.Source.used c.select.new.source) c.args.memo.now.remembered.items (λ x. g.met.W.Source.grows _ _ x c.select.ensures.later) known,
+      ),
+      so.1,
     ))
     (c.in_ok-refs.ensures.answer p is under there lawful)
 
@@ -157,7 +160,7 @@ returns-in-Some-clause-answer g c = λ p is under known there lawful.
     let env = lists_of c.args.sets.now.named.items in
     let asked : AskedSelect = record { pick = c.args.pick; filters = c.args.filters; reads = c.in_ok-sets_read.field-0 } in
     let so = found_again c.args.memo.now.remembered.items asked c.in-Some.one.now c.in-Some.ensures.0 c.in-Some.ensures.1 p (g.W.Source.used c.args.source.now) (lists_of c.args.sets.now.named.items) c.in_ok-sets_read.ensures known in
-    outcome_again (subst (λ (l : List Ref). IsSetOf l (IsRefOf p.objects (IsSelected p.objects env c.args.pick (filters_of c.args.filters.now)))) (sym c.in_ok-clone.ensures.cases) so.set, known) so.needs
+    outcome_again ((subst (λ (l : List Ref). IsSetOf l (IsRefOf p.objects (IsSelected p.objects env c.args.pick (filters_of c.args.filters.now)))) (sym c.in_ok-clone.ensures.cases) so.set, known), under) so.needs
 
 pub returns-in_err-select : goal.returns-in_err-select
 returns-in_err-select g c =
@@ -241,11 +244,14 @@ returns-clause-answer g c = λ p is under known there lawful.
     let used = g.W.Source.used c.select-2.new.source in
     let asked : AskedSelect = record { pick = c.args.pick; filters = c.args.filters; reads = c.in_ok-sets_read.field-0 } in
     outcome_used (λ so all. (
-      subst (λ (l : List Ref). IsSetOf l (IsRefOf p.objects (IsSelected p.objects env pick filters))) (sym c.in_ok-refs-2.ensures.ok) so,
-      recalled_one_more asked c.in_ok-clone-2.field-0.value before after c.args.memo.now.remembered.items c.remember.new.self.remembered.items c.remember.ensures p was used env
-          (λ x. g.met.W.Source.grows _ _ x c.select-2.ensures.later) c.in_ok-sets_read.ensures
-          (λ below. subst (λ (l : List Ref). IsAnswerOf p used env pick filters l (after - before)) (sym (c.in_ok-clone-2.ensures.cases ∙ c.in_ok-refs-2.ensures.ok))
-          (answer_now before after below so all (λ clear. c.select-2.ensures.bounded p is under there lawful clear) (λ clear. c.in_ok-select.ensures.spent p is under there lawful clear))) known,
+      (
+        subst (λ (l : List Ref). IsSetOf l (IsRefOf p.objects (IsSelected p.objects env pick filters))) (sym c.in_ok-refs-2.ensures.ok) so.0,
+        recalled_one_more asked c.in_ok-clone-2.field-0.value before after c.args.memo.now.remembered.items c.remember.new.self.remembered.items c.remember.ensures p was used env
+            (λ x. g.met.W.Source.grows _ _ x c.select-2.ensures.later) c.in_ok-sets_read.ensures
+            (λ below. subst (λ (l : List Ref). IsAnswerOf p used env pick filters l (after - before)) (sym (c.in_ok-clone-2.ensures.cases ∙ c.in_ok-refs-2.ensures.ok))
+            (answer_now before after below so.0 all (λ clear. c.select-2.ensures.bounded p is under there lawful clear) (λ clear. c.in_ok-select.ensures.spent p is under there lawful clear))) known,
+      ),
+      so.1,
     ))
     (c.in_ok-select.ensures.answer p is under there lawful)
 

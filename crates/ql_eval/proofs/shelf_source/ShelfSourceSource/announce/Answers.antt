@@ -14,16 +14,19 @@ returns-clause-later g c =
       refl,
       c.announce_object.ensures.stays,
       grows,
-      (λ p under known. remembers_later p _ _ c.args.self.now.objects.now grows known),
       (λ r object known. known),
       (λ absent. absent_later _ _ c.args.self.now.manifest c.args.self.now.objects.now grows absent),
       (λ r given. given_later _ _ c.args.self.now.manifest c.args.self.now.objects.now c.args.self.now.objects.now grows (λ s o known. known) r given),
-      (λ p under known recalled. all_recalled_later p _ _ c.args.self.now.memo.now.remembered.items grows recalled),
       (λ r is. is),
       (λ given r is. given_later _ _ c.args.self.now.manifest c.args.self.now.objects.now c.args.self.now.objects.now grows (λ s o known. known) r (given r is)),
       refl,
       (λ read. read_later _ _ c.args.self.now.manifest c.args.self.now.objects.now grows read),
     )
+
+pub returns-clause-truly : goal.returns-clause-truly
+returns-clause-truly g c = λ p is under.
+    let grows = λ (x : List ℕ). (c.announce_object.ensures.used x).1 in
+    (under.0, remembers_later p _ _ c.args.self.now.objects.now grows under.1, all_recalled_later p _ _ c.args.self.now.memo.now.remembered.items grows under.2)
 
 pub returns-clause-walked : goal.returns-clause-walked
 returns-clause-walked g c = given_same (top_among c.args.self.now.manifest.tops) _ _ _ _ _ _ c.announce_object.ensures.used

@@ -13,16 +13,18 @@ returns-clause-later g c = (
   refl,
   c.count_names.ensures.stays,
   c.count_names.ensures.grows,
-  (λ p under known. remembers_later p _ _ c.args.self.now.objects.now c.count_names.ensures.grows known),
   (λ r object known. known),
   (λ absent. absent_later _ _ c.args.self.now.manifest c.args.self.now.objects.now c.count_names.ensures.grows absent),
   (λ r given. given_later _ _ c.args.self.now.manifest c.args.self.now.objects.now c.args.self.now.objects.now c.count_names.ensures.grows (λ s o known. known) r given),
-  (λ p under known recalled. all_recalled_later p _ _ c.args.self.now.memo.now.remembered.items c.count_names.ensures.grows recalled),
   (λ r is. is),
   (λ given r is. given_later _ _ c.args.self.now.manifest c.args.self.now.objects.now c.args.self.now.objects.now c.count_names.ensures.grows (λ s o known. known) r (given r is)),
   refl,
   (λ read. read_later _ _ c.args.self.now.manifest c.args.self.now.objects.now c.count_names.ensures.grows read),
 )
+
+pub returns-clause-truly : goal.returns-clause-truly
+returns-clause-truly g c = λ p is under.
+    (under.0, remembers_later p _ _ c.args.self.now.objects.now c.count_names.ensures.grows under.1, all_recalled_later p _ _ c.args.self.now.memo.now.remembered.items c.count_names.ensures.grows under.2)
 
 pub returns-clause-told : goal.returns-clause-told
 returns-clause-told g c = IfErr-weaker c.count_names.result _ _ (λ fault told absent kept. told) c.count_names.ensures.told
