@@ -135,8 +135,7 @@ fn row_of_nodes(alloc: Global) -> Result<String, Fail> {
         text.push_str(line.as_str())?;
     }
     text.push_str("w1 Nn300")?;
-    for below in 1..300 {
-        let id = 300 - below;
+    for id in (1..300).rev() {
         let node = format!(in alloc; ",n{id}")?;
         text.push_str(node.as_str())?;
     }
