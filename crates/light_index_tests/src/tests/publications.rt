@@ -1,6 +1,6 @@
 //! Entries, nodes and roots.
 
-use crate::tests::texts_of_sets::{ALL_KINDS, DATELINE};
+use crate::tests::texts_of_sets::{ALL_KINDS, DATELINE, MANY, TOWN};
 use light_index::{LightSnapshot, light_entries_of, line_nodes};
 use opl_codec::read_set;
 use osm_index::IndexFault;
@@ -117,6 +117,16 @@ fn roots_are_those_of_the_model(rt: HostRuntime) -> Result<(), Fail> {
             DATELINE,
             7,
             "dfec985b7b80b38be2085d44d7ced88279f4bac0b67ec96aea3e556fb47ece04",
+        ),
+        (
+            TOWN,
+            7,
+            "55c3d0843109bcf55d64f21543e0b3d0d630d35d223c071f6d756e83b541b7bd",
+        ),
+        (
+            MANY,
+            7,
+            "57cd4395afff04e2d9732a80fe9e91f93c3b3eb5c62bda81a41af22e3890d2a2",
         ),
     ];
     for (text, sequence, root) in rows {
