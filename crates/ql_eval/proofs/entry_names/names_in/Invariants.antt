@@ -5,7 +5,7 @@ use Rattle.osm_model.specs.declared.reference.Ref.{Ref}
 use Rattle.tree_node.specs.NodeRefs.{bindings_of}
 use Rattle.ql_eval.specs.Forms.{HaveForm, Names}
 use Rattle.ql_eval.specs.internal.Entries.{IsSaid}
-use Rattle.ql_eval.proofs.names.names_in.Given as goal
+use Rattle.ql_eval.proofs.entry_names.names_in.Given as goal
 
 abbrev pub invariant-loop-item : goal.invariant-loop-item
 invariant-loop-item l = record {

@@ -8,7 +8,7 @@ use Rattle.ql_eval.specs.Forms.{HaveForm, Names}
 use Rattle.ql_eval.specs.internal.Entries.{AreMisread, IsSaid}
 use Rattle.ql_eval.proofs.NameLemmas.{form_more, misread_one, one_named, said_more, set_of_said}
 use Rattle.ql_eval.proofs.StepLemmas.{refused_as}
-use Rattle.ql_eval.proofs.names.names_in.Goals as goal
+use Rattle.ql_eval.proofs.entry_names.names_in.Goals as goal
 
 pub returns-in_err-name-clause-refused : goal.returns-in_err-name-clause-refused
 returns-in_err-name-clause-refused c =
