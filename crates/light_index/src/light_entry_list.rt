@@ -1,4 +1,4 @@
-//! The entries of a tree, packed.
+//! The entries of a tree, packed, as `osm_index::EntryList`, which another crate can't make. They are sorted by whole keys.
 
 ghost use Rattle.std.specs.List.{AllAdjacentBelow, Contains, dedup};
 ghost use Rattle.std.specs.List.Sorted.{IsPermutation, IsSortedByKey};

@@ -1,6 +1,6 @@
 //! Putting lines into a stock.
 
-ghost use Rattle.std.specs.Prelude.{◌≡◌, ◌⊎◌, Err, OnOk};
+ghost use Rattle.std.specs.Prelude.{◌≡◌, ◌≢◌, ◌⊎◌, Err, OnOk};
 ghost use Rattle.tree_build.specs.Rebuilding.{IsAmong, nodes_of};
 ghost use Rattle.tree_node.specs.Outcomes.{Clash, GrownByAll};
 ghost use Rattle.tree_node.specs.Stocks.{HasNode};
@@ -17,7 +17,7 @@ pub(crate) fn put_lines(stock: &mut Stock, lines: Vec<NewNode>) -> Result<(), In
     ensures clash { result ≡ Err IndexFault.Clash
         → Clash (λ bytes. HasNode stock.old bytes
         ⊎ IsAmong (nodes_of lines.items) bytes) (IsAmong (nodes_of lines.items)) }
-    ensures no_other { result ≡ Err IndexFault.TooMany → ⊥ }
+    ensures few { result ≢ Err IndexFault.TooMany }
 {
     for line in lines {
         if let Err(fault) = stock.put_new(line) {
