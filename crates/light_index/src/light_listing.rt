@@ -17,11 +17,11 @@ use osm_model::{Body, Kind, Member, Object, ObjectSet, Ref, Tag};
 use std::alloc::{AllocError, Global};
 use tree_node::{Digest, NewNode, Tree};
 
-/// The entries of a tree of these objects, whose lines are these, packed in one buffer; `LightEntryList::sorted` lends them
-/// by rising key, each once. `line_nodes` gives the lines.
+/// The entries of a tree of these objects, whose lines are these, packed in one buffer; `LightEntryList::sorted` lends
+/// them by rising key, each once. `line_nodes` gives the lines.
 ///
-/// Linear in what it writes: no line is written or digested again. It takes the memory of the keys, the values and eight
-/// bytes an entry, and fails only if memory runs out.
+/// Linear in what it writes: no line is written or digested again. It takes the memory of the keys, the values and
+/// eight bytes an entry, and fails only if memory runs out.
 pub fn light_entries_of(
     alloc: Global,
     set: &ObjectSet,

@@ -9,8 +9,8 @@ ghost use Rattle.light_index.specs.internal.LightPutting.{fault_of_put};
 use osm_index::IndexFault;
 use tree_node::{NewNode, PutFault, Stock};
 
-/// Puts these nodes into the stock, whose bytes move there. Refused with `Clash` only where one of them has the digest of
-/// another node of the stock or of these, and else only with `Memory`.
+/// Moves these nodes into the stock. Refused with `Clash` only where one of them has the digest of a different node of
+/// the stock or of these, and else only with `Memory`; then some of them may be there.
 pub(crate) fn put_lines(stock: &mut Stock, lines: Vec<NewNode>) -> Result<(), IndexFault>
     ensures put { OnOk result
         (GrownByAll (HasNode stock.old) (HasNode stock.new) (IsAmong (nodes_of lines.items))) }

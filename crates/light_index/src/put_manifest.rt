@@ -12,8 +12,8 @@ use osm_index::IndexFault;
 use std::alloc::Global;
 use tree_node::{Digest, Stock};
 
-/// Puts the bytes of a manifest into the stock, and gives their digest. Refused with `Clash` only where another node of the
-/// stock has that digest, and else only with `Memory`.
+/// Puts the bytes of a manifest into the stock, and gives their digest. Refused with `Clash` only where another node of
+/// the stock has that digest, and else only with `Memory`.
 pub(crate) fn put_manifest(
     alloc: Global,
     manifest: &LightManifest,
