@@ -1,4 +1,5 @@
--- What the four trees of a set of objects hold where each entry states the digest of the line of the object that it names.
+-- What the four trees of a set of objects hold where each entry states the digest of the line of the object that it
+-- names.
 -- Source: this project.
 use Rattle.std.specs.List.{Contains}
 use Rattle.std.specs.Prelude.{◌≡◌, ◌↔◌, ℕ, List, None}

@@ -11,8 +11,8 @@ use Rattle.tree_node.specs.declared.digest.Digest.{Digest}
 use Rattle.tree_node.specs.declared.stock.Stock.{Stock}
 use Rattle.tree_node.specs.declared.tree.Tree.{Tree}
 
--- this stock, this manifest with its sequence and this root are those of the publication, and no two different nodes of it
--- have one digest
+-- this stock, this manifest with its sequence and this root are those of the publication, and no two different nodes of
+-- it have one digest
 pub record AreLightHeld (stock : Stock) (found : LightManifest) (key : Digest) (p : LightPublication) : Type 0 where
   pub is : IsLightPublicationOf p.objects found.sequence p
   pub nodes : (bytes : List ℕ) → HasNode stock bytes ↔ IsLightNodeIn p bytes

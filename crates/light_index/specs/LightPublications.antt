@@ -1,5 +1,5 @@
--- What a publisher makes of a set of objects where each object's line is a node of its own: the lines, the four trees, the
--- manifest and the root.
+-- What a publisher makes of a set of objects where each object's line is a node of its own: the lines, the four trees,
+-- the manifest and the root.
 -- Source: this project.
 use Rattle.std.specs.List.{Contains}
 use Rattle.std.specs.Prelude.{◌≡◌, ℕ, ◌<◌, ◌≤◌, ◌^◌, List, length, ◌⊎◌}

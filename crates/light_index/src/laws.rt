@@ -38,7 +38,8 @@ pub fn light_publication_law()
         → (tree : Tree) → HasTree (p.entries tree) }
 {}
 
-/// The law of entries: their keys are bytes. So what walks and counts ask of a tree holds of each tree of a publication.
+/// The law of entries: their keys are bytes. So what walks and counts ask of a tree holds of each tree of a
+/// publication.
 pub fn light_entries_are_bytes()
     ensures keys { (p : LightPublication) → IsLightPublication p → (tree : Tree)
         → AllByRecursion (λ (entry : Binding). AreBytes entry.key) (p.entries tree) }
@@ -47,8 +48,8 @@ pub fn light_entries_are_bytes()
         → IsTopOf Two (number_of tree) (p.entries tree) (light_top_in p tree) }
 {}
 
-/// The law of the three sorts of nodes: no bytes are of two sorts. A line begins with the letter of its object's kind (110,
-/// 114 or 119), a node of a tree with the number of the tree (1 to 4), a manifest with 79.
+/// The law of the three sorts of nodes: no bytes are of two sorts. A line begins with the letter of its object's kind
+/// (110, 114 or 119), a node of a tree with the number of the tree (1 to 4), a manifest with 79.
 pub fn light_nodes_law()
     ensures line_tree { (o : Element) (shape : Shape) (tree : Tree) (entries : List Binding)
         → ¬ IsNodeOf (levels shape (number_of tree) entries) (canonical_line o) }
@@ -59,8 +60,8 @@ pub fn light_nodes_law()
         → ¬ IsNodeOf (levels shape (number_of tree) entries) (light_manifest sequence tops) }
 {}
 
-/// The law of snapshots: what one holds is one set of objects at one sequence, since no two different nodes of it have one
-/// digest.
+/// The law of snapshots: what one holds is one set of objects at one sequence, since no two different nodes of it have
+/// one digest.
 pub fn light_snapshot_law()
     ensures objects { (snapshot : LightSnapshot) (p q : LightPublication)
         → HoldsLightPublication snapshot p → HoldsLightPublication snapshot q

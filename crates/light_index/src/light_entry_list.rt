@@ -1,4 +1,5 @@
-//! The entries of a tree, packed.
+//! The entries of a tree, packed, as `osm_index::EntryList`, which another crate can't make. They are sorted by whole
+//! keys.
 
 ghost use Rattle.std.specs.List.{AllAdjacentBelow, Contains, dedup};
 ghost use Rattle.std.specs.List.Sorted.{IsPermutation, IsSortedByKey};
@@ -21,8 +22,8 @@ pub(crate) struct LightSpan {
     pub(crate) value: u32,
 }
 
-/// The entries of a tree as they were met, object by object: keys and values one after the other in one buffer. Contracts
-/// see the list of them.
+/// The entries of a tree as they were met, object by object: keys and values one after the other in one buffer.
+/// Contracts see the list of them.
 #[derive(Debug, Drop)]
 pub struct LightEntryList {
     bytes: Vec<u8>,

@@ -17,11 +17,11 @@ use osm_model::{Body, Kind, Member, Object, ObjectSet, Ref, Tag};
 use std::alloc::{AllocError, Global};
 use tree_node::{Digest, NewNode, Tree};
 
-/// The entries of a tree of these objects, whose lines are these, packed in one buffer; `LightEntryList::sorted` lends them
-/// by rising key, each once. `line_nodes` gives the lines.
+/// The entries of a tree of these objects, whose lines are these, packed in one buffer; `LightEntryList::sorted` lends
+/// them by rising key, each once. `line_nodes` gives the lines.
 ///
-/// Linear in what it writes: no line is written or digested again. It takes the memory of the keys, the values and eight
-/// bytes an entry, and fails only if memory runs out.
+/// Linear in what it writes: no line is written or digested again. It takes the memory of the keys, the values and
+/// eight bytes an entry, and fails only if memory runs out.
 pub fn light_entries_of(
     alloc: Global,
     set: &ObjectSet,
@@ -54,7 +54,7 @@ fn append_objects(
         (flat_map (light_entries_from tree) objects.now)) }
 {
     for (object, line) in objects.iter().zip(lines) {
-        append_entries(object, line.digest, tree, bytes, spans)?;
+        append_entries(object, &line.digest, tree, bytes, spans)?;
     }
     Ok(())
 }
@@ -62,18 +62,18 @@ fn append_objects(
 /// Packs the entries for one object, whose line has this digest.
 fn append_entries(
     object: &Object,
-    line: Digest,
+    line: &Digest,
     tree: Tree,
     bytes: &mut Vec<u8>,
     spans: &mut Vec<LightSpan>,
 ) -> Result<(), AllocError>
-    requires { line.0 ≡ digest_of_line object.now }
+    requires { line.now.0 ≡ digest_of_line object.now }
     ensures { OnOk result (Gains bytes.old.items bytes.new.items spans.old.items spans.new.items
         (light_entries_from tree object.now)) }
 {
     let name = object.reference();
     match tree {
-        Tree::Objects => append_entry(&reference_key(name), &line_value(line), bytes, spans),
+        Tree::Objects => append_entry(&reference_key(name), &line_value(*line), bytes, spans),
         Tree::Tags => append_tags(object.tags(), name, line, bytes, spans),
         Tree::Cells => append_cells(object.body(), object.id(), line, bytes, spans),
         Tree::Backs => append_backs(object.body(), name, line, bytes, spans),
@@ -84,13 +84,13 @@ fn append_entries(
 fn append_tags(
     tags: &[Tag],
     name: Ref,
-    line: Digest,
+    line: &Digest,
     bytes: &mut Vec<u8>,
     spans: &mut Vec<LightSpan>,
 ) -> Result<(), AllocError>
     requires { All (λ tag. IsShort tag.key × IsShort tag.value) tags.now }
     ensures { OnOk result (Gains bytes.old.items bytes.new.items spans.old.items spans.new.items
-        (map (tag_of name line.0) tags.now)) }
+        (map (tag_of name line.now.0) tags.now)) }
 {
     for tag in tags {
         append_tag(tag, name, line, bytes, spans)?;
@@ -102,19 +102,19 @@ fn append_tags(
 fn append_tag(
     tag: &Tag,
     name: Ref,
-    line: Digest,
+    line: &Digest,
     bytes: &mut Vec<u8>,
     spans: &mut Vec<LightSpan>,
 ) -> Result<(), AllocError>
     requires key { IsShort tag.now.key }
     requires value { IsShort tag.now.value }
     ensures { OnOk result (Gains bytes.old.items bytes.new.items spans.old.items spans.new.items
-        (tag_of name line.0 tag.now ∷ [])) }
+        (tag_of name line.now.0 tag.now ∷ [])) }
 {
     let start = bytes.len();
     append_tag_key(tag.key.as_bytes(), tag.value.as_bytes(), name, bytes)?;
     let key = (bytes.len() - start) as u32;
-    bytes.extend_from_slice(&line_value(line))?;
+    bytes.extend_from_slice(&line_value(*line))?;
     spans.push(LightSpan { key, value: 32 })?;
     Ok(())
 }
@@ -123,16 +123,16 @@ fn append_tag(
 fn append_cells(
     body: &Body,
     id: i64,
-    line: Digest,
+    line: &Digest,
     bytes: &mut Vec<u8>,
     spans: &mut Vec<LightSpan>,
 ) -> Result<(), AllocError>
     ensures { OnOk result (Gains bytes.old.items bytes.new.items spans.old.items spans.new.items
-        (cells_of body.now id line.0)) }
+        (cells_of body.now id line.now.0)) }
 {
     match body {
         Body::Node(place) => {
-            let value = fine_cell_value(place.lat(), &line);
+            let value = fine_cell_value(place.lat(), line);
             append_entry(&fine_cell_key(*place, id), &value, bytes, spans)
         }
         Body::Way(_) => Ok(()),
@@ -144,12 +144,12 @@ fn append_cells(
 fn append_backs(
     body: &Body,
     name: Ref,
-    line: Digest,
+    line: &Digest,
     bytes: &mut Vec<u8>,
     spans: &mut Vec<LightSpan>,
 ) -> Result<(), AllocError>
     ensures { OnOk result (Gains bytes.old.items bytes.new.items spans.old.items spans.new.items
-        (backs_of body.now name line.0)) }
+        (backs_of body.now name line.now.0)) }
 {
     match body {
         Body::Node(_) => Ok(()),
@@ -162,12 +162,12 @@ fn append_backs(
 fn append_node_backs(
     nodes: &[i64],
     name: Ref,
-    line: Digest,
+    line: &Digest,
     bytes: &mut Vec<u8>,
     spans: &mut Vec<LightSpan>,
 ) -> Result<(), AllocError>
     ensures { OnOk result (Gains bytes.old.items bytes.new.items spans.old.items spans.new.items
-        (map (node_back name line.0) nodes.now)) }
+        (map (node_back name line.now.0) nodes.now)) }
 {
     for id in nodes {
         let target = Ref {
@@ -183,12 +183,12 @@ fn append_node_backs(
 fn append_member_backs(
     members: &[Member],
     name: Ref,
-    line: Digest,
+    line: &Digest,
     bytes: &mut Vec<u8>,
     spans: &mut Vec<LightSpan>,
 ) -> Result<(), AllocError>
     ensures { OnOk result (Gains bytes.old.items bytes.new.items spans.old.items spans.new.items
-        (map (member_back name line.0) members.now)) }
+        (map (member_back name line.now.0) members.now)) }
 {
     for member in members {
         append_back(member.target, name, line, bytes, spans)?;
@@ -200,14 +200,19 @@ fn append_member_backs(
 fn append_back(
     target: Ref,
     referrer: Ref,
-    line: Digest,
+    line: &Digest,
     bytes: &mut Vec<u8>,
     spans: &mut Vec<LightSpan>,
 ) -> Result<(), AllocError>
     ensures { OnOk result (Gains bytes.old.items bytes.new.items spans.old.items spans.new.items
-        (back_of referrer line.0 target ∷ [])) }
+        (back_of referrer line.now.0 target ∷ [])) }
 {
-    append_entry(&back_key(target, referrer), &line_value(line), bytes, spans)
+    append_entry(
+        &back_key(target, referrer),
+        &line_value(*line),
+        bytes,
+        spans,
+    )
 }
 
 /// Packs an entry.

@@ -15,8 +15,8 @@ use osm_model::ObjectSet;
 use std::alloc::Global;
 use tree_node::{Digest, Stock};
 
-/// A set of objects at a sequence, with its lines, the nodes of its trees, its manifest and its root: the type keeps that
-/// they are those of one publication, and that no two different nodes of it have one digest.
+/// A set of objects at a sequence, with its lines, the nodes of its trees, its manifest and its root: the type keeps
+/// that they are those of one publication, and that no two different nodes of it have one digest.
 #[derive(Drop)]
 pub struct LightSnapshot {
     stock: Stock,
@@ -31,9 +31,9 @@ impl LightSnapshot {
     /// Builds the trees of a set of objects whose entries state digests of lines, and keeps the lines beside them. The
     /// sequence is the number of the root in the publisher's sequence of roots.
     ///
-    /// Each object's line is written and digested once. Beyond that the time is that of sorting the entries of each tree and
-    /// of hashing all nodes; the entries of one tree at a time are held beside the nodes. What the snapshot holds comes from
-    /// `alloc`.
+    /// Each object's line is written and digested once. Beyond that the time is that of sorting the entries of each
+    /// tree and of hashing all nodes; the entries of one tree at a time are held beside the nodes. What the snapshot
+    /// holds comes from `alloc`.
     ///
     /// Refused with `TooMany` (I4) where a tree would have more than 2^29 entries, else with `Clash` (I1) where two
     /// different nodes have one digest; `Memory` may come in place of any answer.

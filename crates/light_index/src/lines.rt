@@ -9,11 +9,11 @@ use osm_model::Object;
 use std::alloc::{AllocError, Global};
 use tree_node::NewNode;
 
-/// The canonical line of each object without its LF, as a node beside its digest, in the order of the objects. Each line is
-/// written once and digested once.
+/// The canonical line of each object without its LF, as a node beside its digest, in the order of the objects. Each
+/// line is written once and digested once.
 ///
-/// Linear in the lines. It takes the memory of the nodes, each with just the room that its line needs, and of the longest
-/// line once more; it fails only if memory runs out.
+/// Linear in the lines. It takes the memory of the nodes, each with just the room that its line needs, and of the
+/// longest line once more; it fails only if memory runs out.
 pub fn line_nodes(alloc: Global, objects: &[Object]) -> Result<Vec<NewNode>, AllocError>
     ensures { IfOk result (λ lines. AreLinesOf objects.now lines.items) }
 {

@@ -12,8 +12,8 @@ use osm_index::IndexFault;
 use std::alloc::Global;
 use tree_node::{Digest, Stock};
 
-/// Puts the bytes of a manifest into the stock, and gives their digest. Refused with `Clash` only where another node of the
-/// stock has that digest, and else only with `Memory`.
+/// Puts the bytes of a manifest into the stock, and gives their digest. Refused with `Clash` only where another node of
+/// the stock has that digest, and else only with `Memory`.
 pub(crate) fn put_manifest(
     alloc: Global,
     manifest: &LightManifest,
@@ -25,7 +25,7 @@ pub(crate) fn put_manifest(
     ensures clash { result ≡ Err IndexFault.Clash
         → (x : List ℕ) × HasNode stock.old x × (x ≢ light_manifest_bytes manifest.now)
         × (digest_word x ≡ digest_word (light_manifest_bytes manifest.now)) }
-    ensures no_other { result ≡ Err IndexFault.TooMany → ⊥ }
+    ensures few { result ≢ Err IndexFault.TooMany }
 {
     let mut bytes = Vec::new(alloc);
     append_light_manifest(manifest, &mut bytes)?;

@@ -14,8 +14,8 @@ use std::alloc::Global;
 use tree_build::{BuildFault, Shape, build};
 use tree_node::{Digest, ENTRY_LIMIT, NewNode, Stock, Tree};
 
-/// Puts the nodes of the four trees into a stock without nodes, and gives the digests of their tops; none where two nodes
-/// clash. All trees are counted before a clash is told.
+/// Puts the nodes of the four trees into a stock without nodes, and gives the digests of their tops; none where two
+/// nodes clash. All trees are counted before a clash is told.
 pub(crate) fn put_trees(
     alloc: Global,
     set: &ObjectSet,
@@ -46,7 +46,8 @@ fn all_four(
     Some([objects?, tags?, cells?, backs?])
 }
 
-/// Puts the nodes of a tree of these objects into the stock, and gives the digest of its top; none where two nodes clash.
+/// Puts the nodes of a tree of these objects into the stock, and gives the digest of its top; none where two nodes
+/// clash.
 fn put_tree(
     alloc: Global,
     set: &ObjectSet,

@@ -27,9 +27,9 @@ fn shown(alloc: Global, set: &ObjectSet, tree: Tree) -> Result<String, Fail> {
     Ok(text)
 }
 
-/// One node by hand: `sha256sum` gives the digest of its line, `n1 v0 dV c0 t i0 u T x0 y0`, which is 5919 and so on; it
-/// lies in row 9000 (2328) and column 1,800,000,000 (6b49d200). The four objects: how many entries a tree has, and the
-/// first.
+/// One node by hand: `sha256sum` gives the digest of its line, `n1 v0 dV c0 t i0 u T x0 y0`, which is 5919 and so on;
+/// it lies in row 9000 (2328) and column 1,800,000,000 (6b49d200). The four objects: how many entries a tree has, and
+/// the first.
 #[test]
 fn entries_are_those_of_the_model(rt: HostRuntime) -> Result<(), Fail> {
     let rows = [
@@ -136,8 +136,8 @@ fn roots_are_those_of_the_model(rt: HostRuntime) -> Result<(), Fail> {
     Ok(())
 }
 
-/// Three hundred nodes, whose tags aren't met by rising key, and a way that lists them from the last on: trees of two and
-/// three levels.
+/// Three hundred nodes, whose tags aren't met by rising key, and a way that lists them from the last on: trees of two
+/// and three levels.
 fn row_of_nodes(alloc: Global) -> Result<String, Fail> {
     let mut text = String::new(alloc);
     for id in 1..=300 {
@@ -218,8 +218,8 @@ fn nodes_are_those_of_the_model(rt: HostRuntime) -> Result<(), Fail> {
     Ok(())
 }
 
-/// Run with each allocation refused in turn, it gives the whole result or out of memory, and the whole result when memory
-/// is there again.
+/// Run with each allocation refused in turn, it gives the whole result or out of memory, and the whole result when
+/// memory is there again.
 #[test]
 fn a_snapshot_survives_refused_memory(rt: HostRuntime) -> Result<(), Fail> {
     let alloc = rt.alloc();
