@@ -15,9 +15,9 @@ import subprocess
 import sys
 
 
-def run(count, shape):
+def run(count, shape, *words):
     """What one run prints, and its peak memory in bytes."""
-    child = subprocess.Popen(["out/build_speed", str(count), str(shape)], stdout=subprocess.PIPE, text=True)
+    child = subprocess.Popen(["out/build_speed", str(count), str(shape), *words], stdout=subprocess.PIPE, text=True)
     text = child.stdout.read()
     _, status, usage = os.wait4(child.pid, 0)
     child.returncode = os.waitstatus_to_exitcode(status)
@@ -30,7 +30,9 @@ for count in (100_000, 1_000_000):
     _, entries = run(count, 0)
     for shape in (1, 2):
         for _ in range(int(sys.argv[1])):
-            words, peak = run(count, shape)
+            words, _ = run(count, shape)
+            # (to hash the nodes, the other run fetches them all, which takes memory of its own)
+            _, peak = run(count, shape, "alone")
             built, hashed, nodes, size = (int(words[at]) for at in (2, 6, 9, 11))
             extra = peak - entries - size
             print(

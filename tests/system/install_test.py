@@ -15,6 +15,7 @@ from runs import SECONDS, TOP, Outcome, Tally
 
 INSTALLED = {
     "bin/osm_mirror": 0o755,
+    "lib/osm_mirror/watch": 0o755,
     "lib/systemd/system/osm_mirror-watch@.service": 0o644,
     "lib/systemd/system/osm_mirror-watch@.timer": 0o644,
     "lib/systemd/system/osm_mirror@.service": 0o644,
@@ -145,9 +146,10 @@ def check_unit(tally, prefix):
     """systemd takes the unit without a warning, and finds it well enclosed."""
     if not is_there("systemd-analyze"):
         return
+    for name in ["osm_mirror@.service", "osm_mirror-watch@.service", "osm_mirror-watch@.timer"]:
+        outcome = outcome_of(["systemd-analyze", "verify", "--man=no", prefix / "lib/systemd/system" / name], prefix)
+        tally.check(f"the unit {name}", outcome == Outcome(b"", b"", 0), outcome)
     unit = prefix / "lib/systemd/system/osm_mirror@.service"
-    outcome = outcome_of(["systemd-analyze", "verify", "--man=no", unit], prefix)
-    tally.check("the unit", outcome == Outcome(b"", b"", 0), outcome)
     outcome = outcome_of(["systemd-analyze", "security", "--offline=true", "--no-pager", unit], prefix)
     level = re.search(rb"exposure level for \S+: ([0-9.]+)", outcome.stdout)
     tally.check("the unit is enclosed", level is not None and float(level[1]) < 2, outcome)

@@ -63,7 +63,9 @@ impl<W: Wires + Drop> Connections<W> {
         into: &mut Vec<u8>,
     ) -> Result<Given, NotGiven>
         requires { wire < WIRES }
-        ensures { IfOk result (TakesResponse asked size (W.heard self.old.wires wire) self.old.incoming (W.heard self.new.wires wire) self.new.incoming into.old.items into.new.items) }
+        ensures { IfOk result
+            (TakesResponse asked size (W.heard self.old.wires wire) self.old.incoming
+            (W.heard self.new.wires wire) self.new.incoming into.old.items into.new.items) }
     {
         let given = self.receive_head(wire, asked, size)?;
         self.receive_body(wire, given, into)?;
@@ -78,7 +80,9 @@ impl<W: Wires + Drop> Connections<W> {
         size: Option<u64>,
     ) -> Result<Given, NotGiven>
         requires { wire < WIRES }
-        ensures { IfOk result (TakesHead asked size (W.heard self.old.wires wire) self.old.incoming (W.heard self.new.wires wire) self.new.incoming) }
+        ensures { IfOk result
+            (TakesHead asked size (W.heard self.old.wires wire) self.old.incoming
+            (W.heard self.new.wires wire) self.new.incoming) }
     {
         take_head(&mut self.wires, wire, &mut self.incoming, asked, size)
     }
@@ -91,7 +95,9 @@ impl<W: Wires + Drop> Connections<W> {
         into: &mut Vec<u8>,
     ) -> Result<(), NotGiven>
         requires { wire < WIRES }
-        ensures { OnOk result (TakesBody given.len (W.heard self.old.wires wire) self.old.incoming (W.heard self.new.wires wire) self.new.incoming into.old.items into.new.items) }
+        ensures { OnOk result
+            (TakesBody given.len (W.heard self.old.wires wire) self.old.incoming
+            (W.heard self.new.wires wire) self.new.incoming into.old.items into.new.items) }
     {
         take_body(&mut self.wires, wire, &mut self.incoming, given.len, into)?;
         if given.closes {

@@ -14,7 +14,8 @@ use httparse::spans::{HeaderSpan, ResponseSpans, parse_response};
 /// Where its fields are is written into `headers`.
 pub(crate) fn read_head(head: &[u8], headers: &mut [HeaderSpan]) -> Option<ResponseSpans>
     requires room { length headers.old ≡ FIELD_LIMIT }
-    ensures within { IfSome result (λ spans. IsResponseWithin head.now headers.new spans × (spans.len ≡ length head.now)) }
+    ensures within { IfSome result
+        (λ spans. IsResponseWithin head.now headers.new spans × (spans.len ≡ length head.now)) }
     ensures none { IfNone result (HasNone head.now) }
     ensures some { IfSome result (IsReadAs head.now headers.new) }
 {

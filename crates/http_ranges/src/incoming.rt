@@ -63,7 +63,8 @@ impl Incoming {
     /// Waits for more bytes of this connection.
     pub(crate) fn pull<W: Wires>(&mut self, wires: &mut W, wire: usize) -> Result<(), NotGiven>
         ensures more { OnOk result (length self.old < length self.new) }
-        ensures passes { OnOk result (Passes [] (W.heard wires.old wire) self.old (W.heard wires.new wire) self.new) }
+        ensures passes { OnOk result
+            (Passes [] (W.heard wires.old wire) self.old (W.heard wires.new wire) self.new) }
     {
         self.compact();
         let mut piece = [0; PIECE_LIMIT];

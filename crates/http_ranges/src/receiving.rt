@@ -26,7 +26,9 @@ pub(crate) fn take_head<W: Wires>(
     asked: ByteRange,
     size: Option<u64>,
 ) -> Result<Given, NotGiven>
-    ensures { IfOk result (TakesHead asked size (W.heard wires.old wire) incoming.old (W.heard wires.new wire) incoming.new) }
+    ensures { IfOk result
+        (TakesHead asked size (W.heard wires.old wire) incoming.old
+        (W.heard wires.new wire) incoming.new) }
 {
     await_first(wires, wire, incoming)?;
     for _ in 0..=INTERIM_LIMIT {
@@ -47,7 +49,9 @@ fn next_head<W: Wires>(
     asked: ByteRange,
     size: Option<u64>,
 ) -> Result<Judgement, NotGiven>
-    ensures { IfOk result (TakesNext asked size (W.heard wires.old wire) incoming.old (W.heard wires.new wire) incoming.new) }
+    ensures { IfOk result
+        (TakesNext asked size (W.heard wires.old wire) incoming.old
+        (W.heard wires.new wire) incoming.new) }
 {
     let len = await_head(wires, wire, incoming)?;
     let (head, _) = incoming.rest().split_at(len);
@@ -62,7 +66,8 @@ fn await_first<W: Wires>(
     wire: usize,
     incoming: &mut Incoming,
 ) -> Result<(), NotGiven>
-    ensures { OnOk result (Passes [] (W.heard wires.old wire) incoming.old (W.heard wires.new wire) incoming.new) }
+    ensures { OnOk result
+        (Passes [] (W.heard wires.old wire) incoming.old (W.heard wires.new wire) incoming.new) }
 {
     if !incoming.rest().is_empty() {
         return Ok(());
@@ -81,7 +86,8 @@ fn await_head<W: Wires>(
     incoming: &mut Incoming,
 ) -> Result<usize, NotGiven>
     ensures within { IfOk result (λ len. len ≤ length incoming.new) }
-    ensures passes { OnOk result (Passes [] (W.heard wires.old wire) incoming.old (W.heard wires.new wire) incoming.new) }
+    ensures passes { OnOk result
+        (Passes [] (W.heard wires.old wire) incoming.old (W.heard wires.new wire) incoming.new) }
 {
     while incoming.rest().len() < HEAD_LIMIT {
         if let Some(len) = end_of_head(incoming.rest()) {
@@ -122,7 +128,9 @@ pub(crate) fn take_body<W: Wires>(
     len: u64,
     into: &mut Vec<u8>,
 ) -> Result<(), NotGiven>
-    ensures { OnOk result (TakesBody len (W.heard wires.old wire) incoming.old (W.heard wires.new wire) incoming.new into.old.items into.new.items) }
+    ensures { OnOk result
+        (TakesBody len (W.heard wires.old wire) incoming.old
+        (W.heard wires.new wire) incoming.new into.old.items into.new.items) }
 {
     let mut left = len;
     while left > 0 {
@@ -135,7 +143,8 @@ pub(crate) fn take_body<W: Wires>(
 /// Waits for bytes where there are none.
 fn await_some<W: Wires>(wires: &mut W, wire: usize, incoming: &mut Incoming) -> Result<(), NotGiven>
     ensures some { OnOk result (0 < length incoming.new) }
-    ensures passes { OnOk result (Passes [] (W.heard wires.old wire) incoming.old (W.heard wires.new wire) incoming.new) }
+    ensures passes { OnOk result
+        (Passes [] (W.heard wires.old wire) incoming.old (W.heard wires.new wire) incoming.new) }
 {
     if incoming.rest().is_empty() {
         incoming.pull(wires, wire)?;
@@ -147,9 +156,11 @@ fn await_some<W: Wires>(wires: &mut W, wire: usize, incoming: &mut Incoming) -> 
 fn take_some(incoming: &mut Incoming, most: u64, into: &mut Vec<u8>) -> Result<u64, AllocError>
     requires some { 0 < length incoming.old }
     requires wanted { 0 < most }
-    ensures count { IfOk result (λ count. (0 < count) × (count ≤ most) × (count ≤ length incoming.old)) }
+    ensures count { IfOk result
+        (λ count. (0 < count) × (count ≤ most) × (count ≤ length incoming.old)) }
     ensures taken { IfOk result (λ count. incoming.new ≡ drop count incoming.old) }
-    ensures appended { IfOk result (λ count. into.new.items ≡ into.old.items ++ take count incoming.old) }
+    ensures appended { IfOk result
+        (λ count. into.new.items ≡ into.old.items ++ take count incoming.old) }
 {
     let rest = incoming.rest();
     let count = most.min(rest.len() as u64) as usize;

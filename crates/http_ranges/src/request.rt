@@ -17,7 +17,8 @@ pub fn range_request(
     address: &Address<'_>,
     range: ByteRange,
 ) -> Result<Vec<u8>, AllocError>
-    ensures { IfOk result (λ request. request.items ≡ request_text address.now.host.now address.now.path.now range) }
+    ensures { IfOk result
+        (λ request. request.items ≡ request_text address.now.host.now address.now.path.now range) }
 {
     let numbers = range_text(alloc, range)?;
     let mut text = Vec::new(alloc);

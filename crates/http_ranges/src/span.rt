@@ -27,7 +27,8 @@ pub fn joined(alloc: Global, sorted: &[Span]) -> Result<Vec<Span>, AllocError>
     // Each starts at the end of the one before it or later.
     ensures rises { AreInOrder sorted.now → IfOk result (λ spans. Rises spans.items) }
     // None gets too long by joining.
-    ensures short { AreApart sorted.now → IfOk result (λ spans. AllByRecursion IsShort spans.items) }
+    ensures short { AreApart sorted.now
+        → IfOk result (λ spans. AllByRecursion IsShort spans.items) }
 {
     join_all(alloc, sorted)
 }

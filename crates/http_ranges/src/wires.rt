@@ -27,7 +27,8 @@ pub trait Wires {
     /// Sends bytes.
     fn send(&mut self, wire: usize, bytes: &[u8]) -> Transfer
         ensures sent { Sends bytes.now result }
-        ensures heard { (before : List ℕ) → heard self.old wire before → heard self.new wire before };
+        ensures heard { (before : List ℕ) → heard self.old wire before
+            → heard self.new wire before };
 
     /// Waits for bytes, and puts them at the front of the piece.
     fn receive(&mut self, wire: usize, piece: &mut [u8]) -> Transfer

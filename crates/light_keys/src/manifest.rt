@@ -8,6 +8,9 @@ ghost use Rattle.light_keys.specs.LightManifests.{light_manifest, light_manifest
 use std::alloc::AllocError;
 use tree_node::Digest;
 
+/// How the bytes of a manifest begin.
+const MAGIC: &[u8] = b"OSMM";
+
 /// What the root of a set is the digest of, where the entries of its trees state digests of lines: a sequence, and the
 /// digests of the tops of the four trees in the order of their numbers.
 #[derive(Clone, Copy, Debug, PartialEq, Eq)]
@@ -40,7 +43,7 @@ fn append_parts(manifest: &LightManifest, out: &mut Vec<u8>) -> Result<(), Alloc
         ++ light_manifest_bytes manifest.now) }
     ensures extended { OnErr result (take (length out.old.items) out.new.items ≡ out.old.items) }
 {
-    out.extend_from_slice(b"OSMM")?;
+    out.extend_from_slice(MAGIC)?;
     append_sequence(manifest.sequence, out)?;
     append_tops(&manifest.tops, out)
 }
@@ -76,7 +79,7 @@ pub fn read_light_manifest(bytes: &[u8]) -> Option<LightManifest>
     ensures none { IsNone result → (sequence : ℕ) (tops : Tree → List ℕ) → HaveWidth tops
         → bytes.now ≢ light_manifest sequence tops }
 {
-    let rest = bytes.strip_prefix(b"OSMM")?;
+    let rest = bytes.strip_prefix(MAGIC)?;
     let (sequence, rest) = read_sequence(rest)?;
     let tops = read_tops(rest)?;
     Some(LightManifest { sequence, tops })

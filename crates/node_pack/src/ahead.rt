@@ -104,7 +104,8 @@ impl<F: ReadAt + Drop> PackSource<F> {
     /// Says which records of this level will be read, each once and none that was brought before, and remembers them.
     fn expect_level(&mut self, level: &[Step<'_>]) -> Result<(), ReadFault>
         ensures marked { OnOk result ((place : Place)
-            → Contains (new_places_of self.old.size self.old.places self.old.ahead.brought level.now) place
+            → Contains
+            (new_places_of self.old.size self.old.places self.old.ahead.brought level.now) place
             → IsBroughtAt self.new.ahead.brought place.at) }
         ensures announced { self.new.ahead.announced ≡ self.old.ahead.announced }
         ensures root { root_in self.new ≡ root_in self.old }

@@ -45,7 +45,8 @@ impl Announced {
     /// Keeps a hint as far as there is room. Where memory is refused for it, it is dropped.
     pub(crate) fn hear(&mut self, alloc: Global, top: &Digest, lo: &[u8], hi: &[u8])
         ensures kept { IsBounded self.old
-            → IsKept self.old self.new (hint_with top.now lo.now hi.now) ⊎ IsLeft self.old self.new }
+            → IsKept self.old self.new (hint_with top.now lo.now hi.now)
+            ⊎ IsLeft self.old self.new }
         ensures bounded { IsBounded self.old → IsBounded self.new }
     {
         match self.keep(alloc, top, lo, hi) {
@@ -57,10 +58,13 @@ impl Announced {
     fn keep(&mut self, alloc: Global, top: &Digest, lo: &[u8], hi: &[u8]) -> Result<(), AllocError>
         ensures kept { hint_cost (hint_with top.now lo.now hi.now) ≤ self.old.room
             → OnOk result (IsKept self.old self.new (hint_with top.now lo.now hi.now)) }
-        ensures full { IsBounded self.old → self.old.room < hint_cost (hint_with top.now lo.now hi.now) → IsLeft self.old self.new }
+        ensures full { IsBounded self.old
+            → self.old.room < hint_cost (hint_with top.now lo.now hi.now)
+            → IsLeft self.old self.new }
         ensures refused { OnErr result (IsLeft self.old self.new) }
         ensures either { IsBounded self.old
-            → IsKept self.old self.new (hint_with top.now lo.now hi.now) ⊎ IsLeft self.old self.new }
+            → IsKept self.old self.new (hint_with top.now lo.now hi.now)
+            ⊎ IsLeft self.old self.new }
         ensures bounded { IsBounded self.old → IsBounded self.new }
     {
         let cost = lo.len().saturating_add(hi.len()).saturating_add(HINT_MORE);

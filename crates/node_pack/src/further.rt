@@ -52,17 +52,20 @@ pub fn write_further<F: ReadAt + Drop, W: Write>(
     // What is written is a further file of just these nodes, and all of it.
     ensures written { IfOk result (λ header. (added : List Kept)
         × AreFurther number (earlier_place number known.now) root.now.0 (bytes_of nodes.now) added
-        × Appends (W.contents writer.old) (W.contents writer.new) (further number (earlier_place number known.now) root.now.0 added)
+        × Appends (W.contents writer.old) (W.contents writer.new)
+        (further number (earlier_place number known.now) root.now.0 added)
         × (header ≡ further_header number (earlier_place number known.now) root.now.0 added)) }
     // Each refusal has its reason, unless it is the writer's.
     ensures refused { IfErr result (λ fault. fault ≢ WriteFault.NotWritten
-        → IsFurtherReason number (earlier_place number known.now) root.now.0 (bytes_of nodes.now) fault) }
+        → IsFurtherReason number (earlier_place number known.now) root.now.0
+        (bytes_of nodes.now) fault) }
     // Where the writer fails, no more than a beginning of the file is written, and nothing where another thing is at fault.
     ensures begun { result ≡ Err WriteFault.NotWritten → (added : List Kept)
         × AreFurther number (earlier_place number known.now) root.now.0 (bytes_of nodes.now) added
         × AppendsFront (W.contents writer.old) (W.contents writer.new)
         (further number (earlier_place number known.now) root.now.0 added) }
-    ensures untouched { IfErr result (λ fault. fault ≢ WriteFault.NotWritten → writer.new ≡ writer.old) }
+    ensures untouched { IfErr result
+        (λ fault. fault ≢ WriteFault.NotWritten → writer.new ≡ writer.old) }
 {
     if !are_new(number, nodes, known) {
         return Err(WriteFault::Malformed);
@@ -122,9 +125,11 @@ fn lay_beside<F: ReadAt + Drop>(
         ≡ further_header number (earlier_place number known.now) root.now.0 (kepts nodes.now)) }
     ensures records { OnOk result (flat_map (record_bytes (place_by places.new)) (kepts nodes.now)
         ≡ further_records number (earlier_place number known.now) (kepts nodes.now)) }
-    ensures is_further { OnOk result (IsFurther (further number (earlier_place number known.now) root.now.0 (kepts nodes.now))
+    ensures is_further { OnOk result
+        (IsFurther (further number (earlier_place number known.now) root.now.0 (kepts nodes.now))
         number (earlier_place number known.now) root.now.0 (kepts nodes.now)) }
-    ensures refused { IfErr result (IsBesideFault number (earlier_place number known.now) root.now.0 nodes.now) }
+    ensures refused { IfErr result
+        (IsBesideFault number (earlier_place number known.now) root.now.0 nodes.now) }
 {
     let size = lay_out(number, nodes, places)?;
     let Some(manifest) = places.get(root) else {
@@ -150,9 +155,11 @@ fn put_all<F: ReadAt + Drop>(
 ) -> Result<(), WriteFault>
     ensures keeps { (key : List ℕ) → IsKnown places.old key → IsKnown places.new key }
     ensures put { (place_of : List ℕ → Option Place) → ArePut place_of places.old
-        → AreEarlier place_of (earlier_place number known.now) places.old → ArePut place_of places.new }
+        → AreEarlier place_of (earlier_place number known.now) places.old
+        → ArePut place_of places.new }
     ensures known { OnOk result (AllByRecursion (HasPlaces places.new) nodes.now) }
-    ensures refused { IfErr result (IsPutFault (IsLeftIn (earlier_place number known.now) places.old nodes.now)) }
+    ensures refused { IfErr result
+        (IsPutFault (IsLeftIn (earlier_place number known.now) places.old nodes.now)) }
 {
     for node in nodes {
         put_children(number, node.children.as_slice(), known, places)?;
@@ -171,9 +178,12 @@ fn put_children<F: ReadAt + Drop>(
 ) -> Result<(), WriteFault>
     ensures keeps { (key : List ℕ) → IsKnown places.old key → IsKnown places.new key }
     ensures put { (place_of : List ℕ → Option Place) → ArePut place_of places.old
-        → AreEarlier place_of (earlier_place number known.now) places.old → ArePut place_of places.new }
-    ensures known { OnOk result (AllByRecursion (λ child. IsKnown places.new child.0) children.now) }
-    ensures refused { IfErr result (IsPutFault (IsLeft (earlier_place number known.now) places.old children.now)) }
+        → AreEarlier place_of (earlier_place number known.now) places.old
+        → ArePut place_of places.new }
+    ensures known { OnOk result
+        (AllByRecursion (λ child. IsKnown places.new child.0) children.now) }
+    ensures refused { IfErr result
+        (IsPutFault (IsLeft (earlier_place number known.now) places.old children.now)) }
 {
     for child in children {
         put_child(number, child, known, places)?;
@@ -192,9 +202,11 @@ fn put_child<F: ReadAt + Drop>(
 ) -> Result<(), WriteFault>
     ensures keeps { (key : List ℕ) → IsKnown places.old key → IsKnown places.new key }
     ensures put { (place_of : List ℕ → Option Place) → ArePut place_of places.old
-        → AreEarlier place_of (earlier_place number known.now) places.old → ArePut place_of places.new }
+        → AreEarlier place_of (earlier_place number known.now) places.old
+        → ArePut place_of places.new }
     ensures known { OnOk result (IsKnown places.new child.now.0) }
-    ensures refused { IfErr result (IsPutFault (HasNoPlace (earlier_place number known.now) places.old child.now.0)) }
+    ensures refused { IfErr result
+        (IsPutFault (HasNoPlace (earlier_place number known.now) places.old child.now.0)) }
 {
     if places.contains_key(child) {
         return Ok(());
@@ -228,9 +240,11 @@ fn write_laid<W: Write>(
 ) -> Result<(), WriteFault>
     requires { AllByRecursion HasShortNode nodes.now }
     ensures whole { OnOk result (Appends (W.contents writer.old) (W.contents writer.new)
-        (header_with FURTHER_VERSION header.now ++ flat_map (record_bytes (place_by places.now)) (kepts nodes.now))) }
+        (header_with FURTHER_VERSION header.now ++ flat_map (record_bytes (place_by places.now))
+        (kepts nodes.now))) }
     ensures refused { IfErr result (IsTextFault
-        (header_with FURTHER_VERSION header.now ++ flat_map (record_bytes (place_by places.now)) (kepts nodes.now))
+        (header_with FURTHER_VERSION header.now ++ flat_map (record_bytes (place_by places.now))
+        (kepts nodes.now))
         (W.contents writer.old) (W.contents writer.new) (writer.new ≡ writer.old)) }
 {
     let mut front = Vec::new(alloc);

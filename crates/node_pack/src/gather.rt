@@ -69,11 +69,13 @@ fn take_level<'a, S: Shelf<'a>>(
     ensures stays { Stays S.is_fixed (S.holds shelf.old) (S.holds shelf.new) }
     ensures grows { (key : List ℕ) → IsSeen seen.old key → IsSeen seen.new key }
     ensures closed { OnOk result (AllClosed (S.holds shelf.new) (IsSeen seen.new) level.now) }
-    ensures gathered { (root : List ℕ) (before : List Gathered) → AllGathered (S.holds shelf.old) root level.now
+    ensures gathered { (root : List ℕ) (before : List Gathered)
+        → AllGathered (S.holds shelf.old) root level.now
         → AreGathered (S.holds shelf.old) root seen.old (before ++ next.old.items)
         → OnOk result (AreGathered (S.holds shelf.new) root seen.new (before ++ next.new.items)) }
     ensures low { (root : List ℕ) (height : ℕ) → AllGathered (S.holds shelf.old) root level.now
-        → AreLow (suc height) level.now → AreLow height next.old.items → OnOk result (AreLow height next.new.items) }
+        → AreLow (suc height) level.now → AreLow height next.old.items
+        → OnOk result (AreLow height next.new.items) }
     ensures refused { (root : List ℕ) → AllGathered (S.holds shelf.old) root level.now
         → IfErr result (IsReason (S.holds shelf.new) root) }
 {
@@ -94,11 +96,13 @@ fn take_children<'a, S: Shelf<'a>>(
     ensures stays { Stays S.is_fixed (S.holds shelf.old) (S.holds shelf.new) }
     ensures grows { (key : List ℕ) → IsSeen seen.old key → IsSeen seen.new key }
     ensures closed { OnOk result (IsClosed (S.holds shelf.new) (IsSeen seen.new) node.now) }
-    ensures gathered { (root : List ℕ) (before : List Gathered) → IsGathered (S.holds shelf.old) root node.now
+    ensures gathered { (root : List ℕ) (before : List Gathered)
+        → IsGathered (S.holds shelf.old) root node.now
         → AreGathered (S.holds shelf.old) root seen.old (before ++ next.old.items)
         → OnOk result (AreGathered (S.holds shelf.new) root seen.new (before ++ next.new.items)) }
     ensures low { (root : List ℕ) (height : ℕ) → IsGathered (S.holds shelf.old) root node.now
-        → height_of node.now.role ≤ height → AreLow height next.old.items → OnOk result (AreLow height next.new.items) }
+        → height_of node.now.role ≤ height → AreLow height next.old.items
+        → OnOk result (AreLow height next.new.items) }
     ensures refused { (root : List ℕ) → IsGathered (S.holds shelf.old) root node.now
         → IfErr result (IsReason (S.holds shelf.new) root) }
 {
@@ -125,7 +129,8 @@ fn take<'a, S: Shelf<'a>>(
     ensures grows { (key : List ℕ) → IsSeen seen.old key → IsSeen seen.new key }
     ensures seen { OnOk result (IsSeen seen.new key.now.0) }
     ensures found { OnOk result (IsFound (S.holds shelf.new) wanted key.now.0) }
-    ensures gathered { (root : List ℕ) (before : List Gathered) → IsUnder (S.holds shelf.old) root wanted key.now.0
+    ensures gathered { (root : List ℕ) (before : List Gathered)
+        → IsUnder (S.holds shelf.old) root wanted key.now.0
         → AreGathered (S.holds shelf.old) root seen.old (before ++ into.old.items)
         → OnOk result (AreGathered (S.holds shelf.new) root seen.new (before ++ into.new.items)) }
     ensures low { (height : ℕ) → height_wanted wanted ≤ height → AreLow height into.old.items

@@ -74,7 +74,8 @@ pub(crate) fn read_wanted<'a>(
 pub(crate) fn read_new(alloc: Global, node: &NewNode) -> Result<Gathered<'_>, WriteFault>
     ensures bytes { IfOk result (λ gathered. gathered.bytes.now ≡ node.now.bytes.items) }
     ensures measured { IfOk result IsMeasured }
-    ensures children { IfOk result (λ gathered. HasChildren gathered.bytes.now (digests_of gathered.children.items)) }
+    ensures children { IfOk result
+        (λ gathered. HasChildren gathered.bytes.now (digests_of gathered.children.items)) }
     ensures short { IfOk result (λ gathered. record_len (kept_of gathered) < 2 ^ 32) }
     ensures refused { IfErr result (IsUnfit node.now.bytes.items) }
 {
@@ -107,8 +108,10 @@ fn len_of_record(node: usize, children: usize) -> u64
 /// Refused with `Malformed` where it is neither a node of a tree nor a manifest, and where memory is refused.
 fn read_role(alloc: Global, node: Fetched<'_>) -> Result<(Role, Vec<Digest>), WriteFault>
     requires { ReadsAs node.bytes.now node.read }
-    ensures read { IfOk result (λ read. IsRead node.entry.bytes.now read.0 (digests_of read.1.items)) }
-    ensures refused { IfErr result (IsUnread ((role : Role) → ¬ HasRole node.entry.bytes.now role)) }
+    ensures read { IfOk result
+        (λ read. IsRead node.entry.bytes.now read.0 (digests_of read.1.items)) }
+    ensures refused { IfErr result
+        (IsUnread ((role : Role) → ¬ HasRole node.entry.bytes.now role)) }
 {
     let mut children = Vec::new(alloc);
     match node.read {
@@ -134,7 +137,8 @@ fn read_role(alloc: Global, node: Fetched<'_>) -> Result<(Role, Vec<Digest>), Wr
 ///
 /// Refused with `Malformed` where the bytes are no manifest, and where memory is refused.
 fn list_tops(bytes: &[u8], children: &mut Vec<Digest>) -> Result<(), WriteFault>
-    ensures read { children.old.items ≡ [] → OnOk result (IsRead bytes.now roles.Manifest (digests_of children.new.items)) }
+    ensures read { children.old.items ≡ []
+        → OnOk result (IsRead bytes.now roles.Manifest (digests_of children.new.items)) }
     ensures refused { IfErr result (IsUnread (¬ HasRole bytes.now roles.Manifest)) }
 {
     let Some(manifest) = read_manifest(bytes) else {

@@ -21,7 +21,8 @@ pub(crate) struct Hint {
 impl Hint {
     /// A copy of what was announced.
     pub(crate) fn new(alloc: Global, top: &Digest, lo: &[u8], hi: &[u8]) -> Result<Hint, AllocError>
-        ensures { IfOk result (λ hint. hint_of hint ≡ record { top = top.now.0; lo = lo.now; hi = hi.now }) }
+        ensures { IfOk result
+            (λ hint. hint_of hint ≡ record { top = top.now.0; lo = lo.now; hi = hi.now }) }
     {
         Ok(Hint {
             top: *top,

@@ -37,9 +37,12 @@ pub(crate) fn add_below<'h>(
     step: &Step<'h>,
     steps: &mut Vec<Step<'h>>,
 ) -> Result<(), AllocError>
-    ensures inner { (tree level : ℕ) (links : List Link) → Spells (node_in bytes.now) (Inner tree level links)
-        → OnOk result (AddsLed (below_step step.now) (is_first level) links steps.old.items steps.new.items) }
-    ensures other { ((tree level : ℕ) (links : List Link) → ¬ Spells (node_in bytes.now) (Inner tree level links))
+    ensures inner { (tree level : ℕ) (links : List Link)
+        → Spells (node_in bytes.now) (Inner tree level links)
+        → OnOk result
+        (AddsLed (below_step step.now) (is_first level) links steps.old.items steps.new.items) }
+    ensures other { ((tree level : ℕ) (links : List Link)
+        → ¬ Spells (node_in bytes.now) (Inner tree level links))
         → steps.new ≡ steps.old }
 {
     let (node, _) = split_record(bytes);

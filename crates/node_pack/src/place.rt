@@ -14,7 +14,8 @@ impl Place {
     /// The place at the front of these bytes, and the bytes after it; none where they are fewer than twelve.
     pub(crate) fn split(bytes: &[u8]) -> Option<(Place, &[u8])>
         ensures { MatchOption result (length bytes.now < 12)
-            (λ found. (12 ≤ length bytes.now) × (found.0 ≡ first_place bytes.now) × (found.1.now ≡ drop 12 bytes.now)) }
+            (λ found. (12 ≤ length bytes.now) × (found.0 ≡ first_place bytes.now)
+            × (found.1.now ≡ drop 12 bytes.now)) }
     {
         let (at, rest) = bytes.split_first_chunk()?;
         let (len, rest) = rest.split_first_chunk()?;

@@ -44,7 +44,8 @@ pub trait ReadAt {
 
     /// How many bytes there are.
     fn size(&mut self) -> Result<u64, ReadFault>
-        ensures size { (bytes : List ℕ) → reads self.old bytes → IfOk result (λ size. size ≡ length bytes) }
+        ensures size { (bytes : List ℕ) → reads self.old bytes
+            → IfOk result (λ size. size ≡ length bytes) }
         ensures stays { (bytes : List ℕ) → reads self.old bytes → reads self.new bytes };
 
     /// Appends this many bytes from the offset on to `into`. What a refusal leaves there is open.
@@ -66,7 +67,8 @@ impl ReadAt for &[u8] {
 
     /// It doesn't fail.
     fn size(&mut self) -> Result<u64, ReadFault>
-        ensures size { (bytes : List ℕ) → self.old.now ≡ bytes → IfOk result (λ size. size ≡ length bytes) }
+        ensures size { (bytes : List ℕ) → self.old.now ≡ bytes
+            → IfOk result (λ size. size ≡ length bytes) }
         ensures stays { (bytes : List ℕ) → self.old.now ≡ bytes → self.new.now ≡ bytes }
     {
         Ok(self.len() as u64)
@@ -77,7 +79,8 @@ impl ReadAt for &[u8] {
         ensures read { (bytes : List ℕ) → self.old.now ≡ bytes → OnOk result
             (into.new.items ≡ into.old.items ++ take len (drop offset bytes)) }
         ensures stays { (bytes : List ℕ) → self.old.now ≡ bytes → self.new.now ≡ bytes }
-        ensures within { offset + len ≤ length self.old.now → IfErr result (λ fault. fault ≡ ReadFault.Memory) }
+        ensures within { offset + len ≤ length self.old.now
+            → IfErr result (λ fault. fault ≡ ReadFault.Memory) }
         ensures beyond { length self.old.now < offset + len → result ≡ Err ReadFault.Device }
     {
         append_at(self, offset, len, into)
@@ -98,8 +101,10 @@ impl ReadAt for &[u8] {
 
 /// Appends this many of the bytes, from an offset on.
 fn append_at(bytes: &[u8], offset: u64, len: usize, into: &mut Vec<u8>) -> Result<(), ReadFault>
-    ensures read { OnOk result (into.new.items ≡ into.old.items ++ take len (drop offset bytes.now)) }
-    ensures within { offset + len ≤ length bytes.now → IfErr result (λ fault. fault ≡ ReadFault.Memory) }
+    ensures read { OnOk result
+        (into.new.items ≡ into.old.items ++ take len (drop offset bytes.now)) }
+    ensures within { offset + len ≤ length bytes.now
+        → IfErr result (λ fault. fault ≡ ReadFault.Memory) }
     ensures beyond { length bytes.now < offset + len → result ≡ Err ReadFault.Device }
 {
     let size = bytes.len() as u64;

@@ -20,7 +20,8 @@ pub(crate) fn new_places(
     known: &HashMap<Digest, Place>,
     brought: &HashSet<u64>,
 ) -> Result<Vec<Place>, AllocError>
-    ensures { IfOk result (λ places. ArePlacesOf (new_places_of size known.now brought.now steps.now) places.items) }
+    ensures { IfOk result
+        (λ places. ArePlacesOf (new_places_of size known.now brought.now steps.now) places.items) }
 {
     let mut places = list_new(alloc, steps, size, known, brought)?;
     places.sort_unstable();
@@ -36,7 +37,8 @@ fn list_new(
     known: &HashMap<Digest, Place>,
     brought: &HashSet<u64>,
 ) -> Result<Vec<Place>, AllocError>
-    ensures { IfOk result (λ places. places.items ≡ new_places_of size known.now brought.now steps.now) }
+    ensures { IfOk result
+        (λ places. places.items ≡ new_places_of size known.now brought.now steps.now) }
 {
     let mut places = Vec::new(alloc);
     for step in steps {
@@ -85,7 +87,8 @@ pub(crate) fn tell<F: ReadAt>(file: &mut F, places: &[Place])
 /// Remembers that these records were brought.
 pub(crate) fn mark(places: &[Place], brought: &mut HashSet<u64>) -> Result<(), AllocError>
     ensures grows { (at : ℕ) → IsBroughtAt brought.old at → IsBroughtAt brought.new at }
-    ensures marked { OnOk result (AllByRecursion (λ place. IsBroughtAt brought.new place.at) places.now) }
+    ensures marked { OnOk result
+        (AllByRecursion (λ place. IsBroughtAt brought.new place.at) places.now) }
 {
     for place in places {
         brought.insert(place.at)?;

@@ -57,8 +57,10 @@ impl<F: ReadAt + Drop> PackSource<F> {
             → IfOk result (λ source. IsOver F.reads (place_in nodes) source root nodes
             × Knows source root) }
         // The header is that of the file, which has as many bytes as it states,
-        ensures header { (bytes : List ℕ) → F.reads file bytes → IfOk result (λ source. (header : Header)
-            × (header_at (take 60 bytes) (length bytes) ≡ Ok header) × (root_in source ≡ header.root)) }
+        ensures header { (bytes : List ℕ) → F.reads file bytes
+            → IfOk result (λ source. (header : Header)
+            × (header_at (take 60 bytes) (length bytes) ≡ Ok header)
+            × (root_in source ≡ header.root)) }
         // or the first thing that is at fault is told, unless the device fails or memory is refused.
         ensures refused { (bytes : List ℕ) → F.reads file bytes → IfErr result (IsOpenFault bytes) }
     {
@@ -152,12 +154,14 @@ impl<F: ReadAt + Drop> PackSource<F> {
             → IsOver F.reads place_of self.old root nodes
             → IsOver F.reads place_of self.new root nodes }
         // It knows no other place than the root's, and over a pack it does know that one.
-        ensures only { OnOk result ((key : List ℕ) → Knows self.new key → key ≡ (root_in self.new).0) }
+        ensures only { OnOk result
+            ((key : List ℕ) → Knows self.new key → key ≡ (root_in self.new).0) }
         ensures few { OnOk result (places_known self.new ≤ 1) }
         ensures knows { (place_of : List ℕ → Option Place) (root : List ℕ) (nodes : List Kept)
             → IsOver F.reads place_of self.old root nodes
             → OnOk result (Knows self.new root) }
-        ensures unchanged { OnErr result ((key : List ℕ) → Knows self.new key ↔ Knows self.old key) }
+        ensures unchanged { OnErr result
+            ((key : List ℕ) → Knows self.new key ↔ Knows self.old key) }
         ensures as_many { OnErr result (places_known self.new ≡ places_known self.old) }
     {
         let places = first_places(alloc, self.root, self.manifest, self.limit)?;
@@ -168,7 +172,8 @@ impl<F: ReadAt + Drop> PackSource<F> {
     /// Appends the node whose record stands at this place, and remembers where its children stand.
     fn give(&mut self, place: Place, at_most: usize, into: &mut Vec<u8>) -> Result<(), ReadFault>
         ensures appended { OnOk result
-            (into.new.items ≡ into.old.items ++ take (at_most + 1) (node_in (last_record self.new))) }
+            (into.new.items
+            ≡ into.old.items ++ take (at_most + 1) (node_in (last_record self.new))) }
         ensures unchanged { OnErr result (into.new.items ≡ into.old.items) }
         ensures root { root_in self.new ≡ root_in self.old }
         ensures keeps { (key : List ℕ) → Knows self.old key → Knows self.new key }
@@ -178,7 +183,8 @@ impl<F: ReadAt + Drop> PackSource<F> {
         ensures given { (place_of : List ℕ → Option Place) (root key : List ℕ)
             (nodes : List Kept) → IsOver F.reads place_of self.old root nodes
             → place_of key ≡ Some place
-            → OnOk result (GivesKept nodes key at_most into.old.items into.new.items (Knows self.new)) }
+            → OnOk result
+            (GivesKept nodes key at_most into.old.items into.new.items (Knows self.new)) }
     {
         self.bring(place, at_most)?;
         append_node(self.buffer.as_slice(), at_most, into)
@@ -236,7 +242,8 @@ impl<F: ReadAt + Drop> NodeSource for PackSource<F> {
     ) -> Result<(), SourceFault>
         // What is given is the node of the record that was read.
         ensures appended { OnOk result
-            (into.new.items ≡ into.old.items ++ take (at_most + 1) (node_in (last_record self.new))) }
+            (into.new.items
+            ≡ into.old.items ++ take (at_most + 1) (node_in (last_record self.new))) }
         ensures unchanged { OnErr result (into.new.items ≡ into.old.items) }
         ensures root { root_in self.new ≡ root_in self.old }
         // Only the node whose place it doesn't know is absent,
@@ -249,7 +256,8 @@ impl<F: ReadAt + Drop> NodeSource for PackSource<F> {
             → IsOver F.reads place_of self.new root nodes }
         ensures given { (place_of : List ℕ → Option Place) (root : List ℕ) (nodes : List Kept)
             → IsOver F.reads place_of self.old root nodes
-            → OnOk result (GivesKept nodes key.now.0 at_most into.old.items into.new.items (Knows self.new)) }
+            → OnOk result
+            (GivesKept nodes key.now.0 at_most into.old.items into.new.items (Knows self.new)) }
     {
         let Some(place) = self.places.get(key) else {
             return Err(SourceFault::Absent);

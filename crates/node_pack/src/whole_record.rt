@@ -27,8 +27,10 @@ impl Record {
     /// Refused with `Device` where the device fails or the file ends before the record does, and where memory is refused.
     pub fn read<F: ReadAt>(alloc: Global, file: &mut F, place: Place) -> Result<Record, ReadFault>
         // Where these bytes have nodes at places, it is the record of the node at this one.
-        ensures read { (bytes : List ℕ) (limit : ℕ) (place_of : List ℕ → Option Place) (nodes : List Kept) (key : List ℕ)
-            → F.reads file.old bytes → HasNodesAt bytes limit place_of nodes → place_of key ≡ Some place
+        ensures read { (bytes : List ℕ) (limit : ℕ) (place_of : List ℕ → Option Place)
+            (nodes : List Kept) (key : List ℕ)
+            → F.reads file.old bytes → HasNodesAt bytes limit place_of nodes
+            → place_of key ≡ Some place
             → IfOk result (IsRecordAt place_of limit nodes key) }
         ensures stays { (bytes : List ℕ) → F.reads file.old bytes → F.reads file.new bytes }
     {
@@ -41,7 +43,8 @@ impl Record {
     /// The node. Where the record ends before it does, what there is of it counts.
     pub fn node(&self) -> &[u8]
         ensures value { result.now ≡ node_in (bytes_in self.now) }
-        ensures given { (place_of : List ℕ → Option Place) (limit : ℕ) (nodes : List Kept) (key : List ℕ)
+        ensures given { (place_of : List ℕ → Option Place) (limit : ℕ) (nodes : List Kept)
+            (key : List ℕ)
             → (is : IsRecordAt place_of limit nodes key self.now) → result.now ≡ is.kept.bytes }
     {
         let (node, _) = split_record(self.bytes.as_slice());
@@ -50,9 +53,11 @@ impl Record {
 
     /// Where the record of a child stands, by its number among the node's children; none after the last one.
     pub fn child_place(&self, number: usize) -> Option<Place>
-        ensures value { MatchOption result (length (table_in (bytes_in self.now)) < 12 * number + 12)
+        ensures value { MatchOption result
+            (length (table_in (bytes_in self.now)) < 12 * number + 12)
             (λ place. place ≡ first_place (drop (12 * number) (table_in (bytes_in self.now)))) }
-        ensures given { (place_of : List ℕ → Option Place) (limit : ℕ) (nodes : List Kept) (key : List ℕ)
+        ensures given { (place_of : List ℕ → Option Place) (limit : ℕ) (nodes : List Kept)
+            (key : List ℕ)
             → (is : IsRecordAt place_of limit nodes key self.now) → number < length is.kept.children
             → IsPlaceOfChild place_of limit is.kept number result }
     {

@@ -36,15 +36,19 @@ pub fn write_pack<'a, S: Shelf<'a>, W: Write>(
     writer: &mut W,
 ) -> Result<u64, WriteFault>
     // What is written is a pack of just the nodes under the root, and all of it.
-    ensures written { IfOk result (λ len. (nodes : List Kept) × ArePacked (S.holds shelf.new) root.now.0 nodes
-        × Appends (W.contents writer.old) (W.contents writer.new) (pack root.now.0 nodes) × (len ≡ pack_len nodes)) }
+    ensures written { IfOk result
+        (λ len. (nodes : List Kept) × ArePacked (S.holds shelf.new) root.now.0 nodes
+        × Appends (W.contents writer.old) (W.contents writer.new) (pack root.now.0 nodes)
+        × (len ≡ pack_len nodes)) }
     // Each refusal has its reason, unless it is the writer's.
     ensures refused { IfErr result (λ fault. fault ≢ WriteFault.NotWritten
         → IsReason (S.holds shelf.new) root.now.0 fault) }
     // Where the writer fails, no more than a beginning of the pack is written, and nothing where another thing is at fault.
-    ensures begun { result ≡ Err WriteFault.NotWritten → (nodes : List Kept) × ArePacked (S.holds shelf.new) root.now.0 nodes
+    ensures begun { result ≡ Err WriteFault.NotWritten
+        → (nodes : List Kept) × ArePacked (S.holds shelf.new) root.now.0 nodes
         × AppendsFront (W.contents writer.old) (W.contents writer.new) (pack root.now.0 nodes) }
-    ensures untouched { IfErr result (λ fault. fault ≢ WriteFault.NotWritten → writer.new ≡ writer.old) }
+    ensures untouched { IfErr result
+        (λ fault. fault ≢ WriteFault.NotWritten → writer.new ≡ writer.old) }
     // What is held stays held, and on a fixed shelf nothing else comes to be held.
     ensures stays { Stays S.is_fixed (S.holds shelf.old) (S.holds shelf.new) }
 {
@@ -65,7 +69,8 @@ fn write_nodes<W: Write>(
     ensures written { IfOk result (λ len. Appends (W.contents writer.old) (W.contents writer.new)
         (pack root.now.0 (kepts nodes.now))) }
     ensures len { IfOk result (λ len. (len ≡ pack_len (kepts nodes.now)) × (len ≤ 2 ^ 48)) }
-    ensures refused { IfErr result (IsPackFault root.now.0 (kepts nodes.now) (W.contents writer.old) (W.contents writer.new)
+    ensures refused { IfErr result
+        (IsPackFault root.now.0 (kepts nodes.now) (W.contents writer.old) (W.contents writer.new)
         (writer.new ≡ writer.old)) }
 {
     let mut places = HashMap::new(alloc);

@@ -2,8 +2,9 @@
 
 ghost use Rattle.std.specs.Prelude.{◌≡◌, ◌++◌, [], ◌∷◌, length, take, flat_map, OnOk, OnErr};
 ghost use Rattle.std.specs.Fmt.{decimal, signed_decimal};
-ghost use Rattle.osm_model.specs.Bytes.{comma};
+ghost use Rattle.osm_model.specs.Bytes.{comma, space};
 ghost use Rattle.osm_model.specs.CanonicalLine.{name_field, meta_fields, tags_field, tag_text, moment, escaped};
+ghost use Rattle.osm_model.specs.Letters.{changeset_letter, stamp_letter, uid_letter, user_letter, version_letter, visible_letter, visible_mark};
 
 use crate::write_moment::moment_text;
 use crate::write_reference::{append_number, append_reference};
@@ -22,7 +23,7 @@ pub(crate) fn append_name(object: &Object, out: &mut Vec<u8>) -> Result<(), Allo
 /// Appends a space and the fields of the metadata, a space between two.
 pub(crate) fn append_meta(meta: &Meta, out: &mut Vec<u8>) -> Result<(), AllocError>
     ensures ok { OnOk result (out.new.items ≡ out.old.items
-        ++ flat_map (λ f. 32 ∷ f) (meta_fields meta.now)) }
+        ++ flat_map (λ f. space ∷ f) (meta_fields meta.now)) }
     ensures err { OnErr result (take (length out.old.items) out.new.items ≡ out.old.items) }
 {
     append_change(meta, out)?;
@@ -32,9 +33,10 @@ pub(crate) fn append_meta(meta: &Meta, out: &mut Vec<u8>) -> Result<(), AllocErr
 /// The version, that it is visible, the changeset and the moment.
 fn append_change(meta: &Meta, out: &mut Vec<u8>) -> Result<(), AllocError>
     ensures ok { OnOk result (out.new.items ≡ out.old.items
-        ++ ((32 ∷ 118 ∷ decimal meta.now.version) ++ ((32 ∷ 100 ∷ 86 ∷ [])
-        ++ ((32 ∷ 99 ∷ signed_decimal meta.now.changeset)
-        ++ (32 ∷ 116 ∷ moment meta.now.stamp))))) }
+        ++ ((space ∷ version_letter ∷ decimal meta.now.version)
+        ++ ((space ∷ visible_letter ∷ visible_mark ∷ [])
+        ++ ((space ∷ changeset_letter ∷ signed_decimal meta.now.changeset)
+        ++ (space ∷ stamp_letter ∷ moment meta.now.stamp))))) }
     ensures err { OnErr result (take (length out.old.items) out.new.items ≡ out.old.items) }
 {
     append_labelled_number(b" v", i64::from(meta.version), out)?;
@@ -45,7 +47,8 @@ fn append_change(meta: &Meta, out: &mut Vec<u8>) -> Result<(), AllocError>
 /// Who made the change.
 fn append_author(meta: &Meta, out: &mut Vec<u8>) -> Result<(), AllocError>
     ensures ok { OnOk result (out.new.items ≡ out.old.items
-        ++ ((32 ∷ 105 ∷ signed_decimal meta.now.uid) ++ (32 ∷ 117 ∷ escaped meta.now.user))) }
+        ++ ((space ∷ uid_letter ∷ signed_decimal meta.now.uid)
+        ++ (space ∷ user_letter ∷ escaped meta.now.user))) }
     ensures err { OnErr result (take (length out.old.items) out.new.items ≡ out.old.items) }
 {
     append_labelled_number(b" i", meta.uid, out)?;
@@ -65,7 +68,7 @@ fn append_labelled_number(label: &[u8], number: i64, out: &mut Vec<u8>) -> Resul
 
 /// Appends a space and the field of these tags.
 pub(crate) fn append_tags(tags: &[Tag], out: &mut Vec<u8>) -> Result<(), AllocError>
-    ensures ok { OnOk result (out.new.items ≡ out.old.items ++ 32 ∷ tags_field tags.now) }
+    ensures ok { OnOk result (out.new.items ≡ out.old.items ++ space ∷ tags_field tags.now) }
     ensures err { OnErr result (take (length out.old.items) out.new.items ≡ out.old.items) }
 {
     out.extend_from_slice(b" T")?;
@@ -109,7 +112,7 @@ fn append_tag(tag: &Tag, out: &mut Vec<u8>) -> Result<(), AllocError>
 /// Appends the field of a moment.
 #[tactic(auto, unfolding(osm_model::specs::CanonicalLine::moment))]
 fn append_moment(stamp: Option<Stamp>, out: &mut Vec<u8>) -> Result<(), AllocError>
-    ensures ok { OnOk result (out.new.items ≡ out.old.items ++ 32 ∷ 116 ∷ moment stamp) }
+    ensures ok { OnOk result (out.new.items ≡ out.old.items ++ space ∷ stamp_letter ∷ moment stamp) }
     ensures err { OnErr result (take (length out.old.items) out.new.items ≡ out.old.items) }
 {
     out.extend_from_slice(b" t")?;

@@ -2,6 +2,7 @@
 
 ghost use Rattle.std.specs.Prelude.{◌≡◌, ◌++◌, ◌∷◌, flat_map, length, take, OnOk, OnErr};
 ghost use Rattle.std.specs.List.{join_with_byte};
+ghost use Rattle.osm_model.specs.Bytes.{space};
 ghost use Rattle.osm_model.specs.CanonicalLine.{body_fields, tags_field};
 ghost use Rattle.opl_codec.specs.Text.{fields_of, text_of};
 
@@ -64,7 +65,7 @@ fn append_fields(object: &Object, mode: OutMode, out: &mut Vec<u8>) -> Result<()
 /// Appends a space, the tags, and the fields of the body, a space before each.
 fn append_said(object: &Object, out: &mut Vec<u8>) -> Result<(), AllocError>
     ensures ok { OnOk result (out.new.items ≡ out.old.items
-        ++ flat_map (λ f. 32 ∷ f) (tags_field object.now.tags ∷ body_fields object.now.body)) }
+        ++ flat_map (λ f. space ∷ f) (tags_field object.now.tags ∷ body_fields object.now.body)) }
     ensures err { OnErr result (take (length out.old.items) out.new.items ≡ out.old.items) }
 {
     append_tags(object.tags(), out)?;

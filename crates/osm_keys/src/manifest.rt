@@ -9,6 +9,9 @@ use crate::edition::Edition;
 use std::alloc::AllocError;
 use tree_node::Digest;
 
+/// How the bytes of a manifest begin.
+const MAGIC: &[u8] = b"OSMM";
+
 /// What the root of a set is the digest of: the edition, and the digests of the tops of the four trees
 /// in the order of their numbers (this project, docs/FORMATS.md).
 #[derive(Clone, Copy, Debug, PartialEq, Eq)]
@@ -40,7 +43,7 @@ fn append_manifest(manifest: &Manifest, out: &mut Vec<u8>) -> Result<(), AllocEr
     ensures written { OnOk result (out.new.items ≡ out.old.items ++ manifest_bytes manifest.now) }
     ensures extended { OnErr result (take (length out.old.items) out.new.items ≡ out.old.items) }
 {
-    out.extend_from_slice(b"OSMM")?;
+    out.extend_from_slice(MAGIC)?;
     append_edition(manifest.edition, out)?;
     append_tops(&manifest.tops, out)
 }
@@ -84,7 +87,7 @@ pub fn read_manifest(bytes: &[u8]) -> Option<Manifest>
     ensures none { IsNone result → (edition : Edition) (tops : Tree → List ℕ) → HaveWidth tops
         → bytes.now ≢ manifest edition tops }
 {
-    let rest = bytes.strip_prefix(b"OSMM")?;
+    let rest = bytes.strip_prefix(MAGIC)?;
     let (edition, rest) = read_edition(rest)?;
     let tops = read_tops(rest)?;
     Some(Manifest { edition, tops })

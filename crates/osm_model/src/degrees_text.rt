@@ -2,8 +2,9 @@
 
 ghost use Rattle.std.specs.Prelude.{◌≡◌, ◌≤◌, ◌<◌, ◌+◌, ◌^◌, ◌++◌, ◌∷◌, [], length, ℕ, ℤ, unsigned_abs};
 ghost use Rattle.std.specs.Fmt.{decimal};
-ghost use Rattle.osm_model.specs.Degrees.{IsDegrees};
+ghost use Rattle.osm_model.specs.Degrees.{IsDegrees, limit};
 ghost use Rattle.osm_model.specs.CanonicalDegrees.{degrees, decimals_of, with_point};
+ghost use Rattle.osm_model.specs.declared.axis.Axis.TheVariants.{Lon};
 
 use crate::units::{UNITS, power_of_ten};
 use std::marker::Model;
@@ -45,7 +46,7 @@ pub fn write_degrees(value: i32) -> DegreesText
 
 /// A law: the text of a value in an axis's range reads back as that value.
 pub fn reads_back()
-    ensures { (z : ℤ) → unsigned_abs z ≤ 1800000000 → IsDegrees (degrees z) z }
+    ensures { (z : ℤ) → unsigned_abs z ≤ limit Lon → IsDegrees (degrees z) z }
 {}
 
 impl DegreesText {

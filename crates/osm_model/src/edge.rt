@@ -4,6 +4,7 @@ ghost use Rattle.std.specs.Prelude.{◌≡◌, ◌≤◌, ◌<◌, ◌*◌, ◌^
 ghost use Rattle.std.specs.Str.Parse.{AllDigits, digits_value};
 ghost use Rattle.osm_model.specs.Degrees.{Decimal, Spells, IsDegrees, limit};
 ghost use Rattle.osm_model.specs.CanonicalDegrees.{degrees};
+ghost use Rattle.osm_model.specs.declared.axis.Axis.TheVariants.{Lon};
 ghost use Rattle.osm_model.specs.Edges.{IsEdge, IsEdgeFault, IsOnAxis, IsAtMost, IsAtLeast, IsGreater, IsFloor, IsCeiling};
 ghost use Rattle.osm_model.specs.internal.EdgeUnits.{IsAround, signed_floor, signed_ceiling};
 
@@ -125,9 +126,11 @@ pub fn one_decimal()
 /// the edge of what `write_degrees` writes.
 pub fn compares_as_degrees()
     // An edge whose text `read_degrees` reads too.
-    ensures read { (text : List ℕ) (z u : ℤ) (d : Decimal) → IsDegrees text z → Spells text d → (IsAtLeast u d ↔ (z ≤ℤ u)) × (IsAtMost u d ↔ (u ≤ℤ z)) }
+    ensures read { (text : List ℕ) (z u : ℤ) (d : Decimal) → IsDegrees text z → Spells text d
+        → (IsAtLeast u d ↔ (z ≤ℤ u)) × (IsAtMost u d ↔ (u ≤ℤ z)) }
     // The edge of a value that is written.
-    ensures written { (z u : ℤ) (d : Decimal) → unsigned_abs z ≤ 1800000000 → Spells (degrees z) d → (IsAtLeast u d ↔ (z ≤ℤ u)) × (IsAtMost u d ↔ (u ≤ℤ z)) }
+    ensures written { (z u : ℤ) (d : Decimal) → unsigned_abs z ≤ limit Lon
+        → Spells (degrees z) d → (IsAtLeast u d ↔ (z ≤ℤ u)) × (IsAtMost u d ↔ (u ≤ℤ z)) }
 {}
 
 /// The edge, or the first fault.
@@ -165,7 +168,7 @@ impl Sizes {
     /// The next whole units below and above, with the decimal's sign.
     fn with_sign(self, negative: bool) -> (i32, i32)
         requires order { self.floor ≤ self.ceiling }
-        requires range { self.ceiling ≤ 1800000000 }
+        requires range { self.ceiling ≤ limit Lon }
         ensures floor { result.0 ≡ signed_floor negative self.floor self.ceiling }
         ensures ceiling { result.1 ≡ signed_ceiling negative self.floor self.ceiling }
     {
@@ -182,8 +185,12 @@ impl Sizes {
 fn sizes_of(whole: &[u8], fraction: &[u8]) -> Sizes
     requires whole { AllDigits 10 whole.now }
     requires fraction { AllDigits 10 fraction.now }
-    ensures small { result.floor ≤ 1800000000 → IsAround (digits_value 10 (whole.now ++ fraction.now) * 10 ^ 7) (10 ^ length fraction.now) result.floor result.ceiling }
-    ensures large { 1800000000 < result.floor → 1800000000 * 10 ^ length fraction.now < digits_value 10 (whole.now ++ fraction.now) * 10 ^ 7 }
+    ensures small { result.floor ≤ limit Lon
+        → IsAround (digits_value 10 (whole.now ++ fraction.now) * 10 ^ 7)
+        (10 ^ length fraction.now) result.floor result.ceiling }
+    ensures large { limit Lon < result.floor
+        → limit Lon * 10 ^ length fraction.now
+        < digits_value 10 (whole.now ++ fraction.now) * 10 ^ 7 }
     ensures order { result.floor ≤ result.ceiling }
 {
     let (first, rest) = fraction.split_at(fraction.len().min(7));

@@ -18,7 +18,8 @@ use Rattle.osm_desk.specs.Published.{GivesChanges}
 use Rattle.osm_pack_changes.specs.Adding.{IsNextOf}
 use Rattle.osm_serving.specs.ChangeFiles.{HoldsNoChanges}
 use Rattle.osm_pack_changes.specs.Faults.{Explains, fault_of_cause, fault_of_load}
-use Rattle.osm_pack_changes.specs.internal.Reading.{IsAsCommented, IsNextBeside, RefusesRead, comment_of}
+use Rattle.osm_pack_changes.specs.internal.Reading.{IsAsCommented, IsNextBeside, RefusesRead}
+use Rattle.osm_serving.specs.internal.ReadChanges.{comment_of}
 use Rattle.osm_pack_changes.specs.declared.not_added.NotAdded.{NotAdded}
 use Rattle.osm_pack_changes.specs.declared.not_added.NotAdded.TheVariants.{Device, Files, ManyFiles, Memory, Name, Opl, OtherRoot}
 

@@ -12,7 +12,8 @@ ghost use Rattle.osm_commands.specs.TreeRoots.{publication_line};
 ghost use Rattle.osm_pack_changes.specs.Adding.{HasAddedFile, IsNextOf};
 ghost use Rattle.osm_pack_changes.specs.Heads.{manifest_place as place_in};
 ghost use Rattle.osm_pack_changes.specs.Faults.{Explains, IsBeforeWriting};
-ghost use Rattle.osm_pack_changes.specs.internal.Reading.{IsAsCommented, IsNextBeside, RefusesRead, comment_of};
+ghost use Rattle.osm_pack_changes.specs.internal.Reading.{IsAsCommented, IsNextBeside, RefusesRead};
+ghost use Rattle.osm_serving.specs.internal.ReadChanges.{comment_of};
 
 use crate::manifest::manifest_place;
 use crate::next_head::next_head_text;
@@ -76,7 +77,8 @@ pub fn add_to_pack<
         × Appends (W.contents output.old) (W.contents output.new) (publication_line q))
         ⊎ HasSecondPreimage p }
     // All is in its place then, and nothing is held back.
-    ensures placed { OnOk result ((P.is_flushed further.new ≡ true) × (P.is_in_place further.new ≡ true)
+    ensures placed { OnOk result
+        ((P.is_flushed further.new ≡ true) × (P.is_in_place further.new ≡ true)
         × (H.is_flushed new_head.new ≡ true) × (H.is_in_place new_head.new ≡ true)
         × (W.is_flushed output.new ≡ true)) }
     // The head isn't written before the new file is in its place, and the root isn't told before the head is.
@@ -124,7 +126,8 @@ fn add_read<F: ReadAt + Drop, W: Write>(
         → IfErr result (RefusesRead p read.now (length head.now.files.items) name.now)
         ⊎ HasSecondPreimage p }
     ensures untouched { IfErr result (λ fault. IsBeforeWriting fault → further.new ≡ further.old) }
-    ensures named { IfOk result (λ _. (length head.now.files.items < FILES_LIMIT) × IsHeadName name.now) }
+    ensures named { IfOk result
+        (λ _. (length head.now.files.items < FILES_LIMIT) × IsHeadName name.now) }
 {
     let number = head.files.len();
     if number >= FILES_LIMIT {
@@ -181,9 +184,11 @@ fn write_in_turn<P: ReplacingWriter, H: ReplacingWriter, W: FlushingWriter>(
     line: &[u8],
 ) -> Result<(), NotAdded>
     ensures kept { Keeps (P.contents further.old) (P.contents further.new) }
-    ensures written { OnOk result (Appends (H.contents new_head.old) (H.contents new_head.new) head.now
+    ensures written { OnOk result
+        (Appends (H.contents new_head.old) (H.contents new_head.new) head.now
         × Appends (W.contents output.old) (W.contents output.new) line.now) }
-    ensures placed { OnOk result ((P.is_flushed further.new ≡ true) × (P.is_in_place further.new ≡ true)
+    ensures placed { OnOk result
+        ((P.is_flushed further.new ≡ true) × (P.is_in_place further.new ≡ true)
         × (H.is_flushed new_head.new ≡ true) × (H.is_in_place new_head.new ≡ true)
         × (W.is_flushed output.new ≡ true)) }
     ensures head_later { (new_head.new ≡ new_head.old)

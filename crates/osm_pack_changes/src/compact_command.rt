@@ -60,7 +60,8 @@ pub fn compact_pack<
     ensures placed { OnOk result ((P.is_flushed pack.new ≡ true) × (P.is_in_place pack.new ≡ true)
         × (W.is_flushed output.new ≡ true)) }
     // Where the files have the nodes of that publication, only memory, a device or its having no pack is a reason to refuse,
-    ensures whole { S.is_true ≡ true → (p : Publication) (contents : List (List ℕ)) → IsRootOf p head.now.root.0
+    ensures whole { S.is_true ≡ true → (p : Publication) (contents : List (List ℕ))
+        → IsRootOf p head.now.root.0
         → F.reads files.old (joined contents) → AreFilesOf contents p (place_in head.now)
         → IfErr result (IsOutside p) ⊎ HasSecondPreimage p }
     // and in any case each refusal has its reason, with the same exception.

@@ -37,7 +37,8 @@ pub(crate) fn answer_text<N: NodeSource + Drop>(
     ensures right { (p : Publication) (text : List ℕ) → Reads text (statements_of query.now)
         → IsPublication p → root.now.0 ≡ root_of p
         → IfOk result (λ found. IsRight p form text found.items) }
-    ensures rooted { IfOk result (λ _. (found : Manifest) × (digest_word (manifest_bytes found) ≡ root.now.0)) }
+    ensures rooted { IfOk result
+        (λ _. (found : Manifest) × (digest_word (manifest_bytes found) ≡ root.now.0)) }
     ensures budget { (p : Publication) (text : List ℕ) → Reads text (statements_of query.now)
         → IsPublication p → root.now.0 ≡ root_of p → ¬ HaveSecondPreimage (IsNodeOf p)
         → KeepsBudget (IsWorkOf (form_text form) p text) limits.work result }

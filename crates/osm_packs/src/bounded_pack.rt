@@ -48,7 +48,8 @@ pub fn pack_within<
     output: &mut W,
 ) -> Result<(), CommandFault>
     // The writers have gained exactly the pack of a publication of the set that the file holds, and the line of its root.
-    ensures packed { S.is_true ≡ true → OnOk result (IfSome (R.remaining input.old) (λ file. HasPacked file edition
+    ensures packed { S.is_true ≡ true
+        → OnOk result (IfSome (R.remaining input.old) (λ file. HasPacked file edition
         (record { before = P.contents pack.old; after = P.contents pack.new })
         (record { before = W.contents output.old; after = W.contents output.new }))) }
     // The pack is in its place then, and nothing is held back.
@@ -58,7 +59,8 @@ pub fn pack_within<
     ensures only { S.is_true ≡ true → IfSome (R.remaining input.old) (λ file. (set : List Element)
         → HoldsSet file set → IfErr result (IsOutsideOrLong file set edition)) }
     // Which fault it is. Where the reader never ended, some rest of the file was left.
-    ensures refused { S.is_true ≡ true → IfSome (R.remaining input.old) (λ file. IfErr result (λ fault.
+    ensures refused { S.is_true ≡ true
+        → IfSome (R.remaining input.old) (λ file. IfErr result (λ fault.
         (left : Option (List ℕ)) × Explains file left edition fault)) }
     // Nothing is written but where a device fails,
     ensures nothing { IfErr result (λ fault. fault ≢ CommandFault.Device
@@ -81,7 +83,8 @@ fn place_and_tell<P: ReplacingWriter, W: FlushingWriter>(
     pack: &mut P,
     output: &mut W,
 ) -> Result<(), CommandFault>
-    ensures told { OnOk result (Appends (W.contents output.old) (W.contents output.new) (digest_line root.now.0)) }
+    ensures told { OnOk result
+        (Appends (W.contents output.old) (W.contents output.new) (digest_line root.now.0)) }
     ensures kept { Keeps (P.contents pack.old) (P.contents pack.new) }
     ensures placed { OnOk result ((P.is_in_place pack.new ≡ true) × (P.is_flushed pack.new ≡ true)
         × (W.is_flushed output.new ≡ true)) }

@@ -45,13 +45,15 @@ pub fn query_files<F: ReadAt + Drop, W: FlushingWriter>(
     // query's meaning over its set, unless a node that the query needs and another byte string have one
     // digest.
     ensures right { (p : Publication) → IsPublication p → root.now.0 ≡ root_of p
-        → OnOk result (HasAnswered p form query.now (W.contents output.old) (W.contents output.new)) }
+        → OnOk result
+        (HasAnswered p form query.now (W.contents output.old) (W.contents output.new)) }
     // Where the output fails, it has a beginning of it.
     ensures begun { (p : Publication) → IsPublication p → root.now.0 ≡ root_of p
         → result ≡ Err NotAnswered.Device
         → HasBegun p form query.now (W.contents output.old) (W.contents output.new) }
     // Whatever the root is of, it is the digest of a manifest where there is an answer.
-    ensures rooted { OnOk result ((found : Manifest) × (digest_word (manifest_bytes found) ≡ root.now.0)) }
+    ensures rooted { OnOk result
+        ((found : Manifest) × (digest_word (manifest_bytes found) ≡ root.now.0)) }
     // The budget is kept, unless a node of the publication has a second preimage. Without one no work is too much.
     ensures budget { (p : Publication) → IsPublication p → root.now.0 ≡ root_of p
         → ¬ HaveSecondPreimage (IsNodeOf p)
@@ -87,7 +89,8 @@ fn find_text_in_files<F: ReadAt + Drop>(
 ) -> Result<Vec<u8>, NotAnswered>
     ensures right { (p : Publication) → IsPublication p → root.now.0 ≡ root_of p
         → IfOk result (λ text. IsRight p form query.now text.items) }
-    ensures rooted { IfOk result (λ _. (found : Manifest) × (digest_word (manifest_bytes found) ≡ root.now.0)) }
+    ensures rooted { IfOk result
+        (λ _. (found : Manifest) × (digest_word (manifest_bytes found) ≡ root.now.0)) }
     ensures budget { (p : Publication) → IsPublication p → root.now.0 ≡ root_of p
         → ¬ HaveSecondPreimage (IsNodeOf p)
         → KeepsBudget (IsWorkOf (form_text form) p query.now) limits.work result }

@@ -74,7 +74,8 @@ fn write_nodes<P: Write>(
     pack: &mut P,
 ) -> Result<(), CommandFault>
     ensures packed { (p : Publication) → HoldsPublication snapshot.now p → OnOk result
-        ((bytes : List ℕ) × IsPackOf p bytes × Appends (P.contents pack.old) (P.contents pack.new) bytes) }
+        ((bytes : List ℕ) × IsPackOf p bytes
+        × Appends (P.contents pack.old) (P.contents pack.new) bytes) }
     ensures refused { (p : Publication) → HoldsPublication snapshot.now p
         → IfErr result (IsPackFault p) }
     ensures nothing { IfErr result (λ fault. fault ≢ CommandFault.Device

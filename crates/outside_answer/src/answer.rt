@@ -50,7 +50,8 @@ pub fn answer_from<'a, S: ProofShelf<'a>, T: Sink>(
         (T.stands sink.old) (T.stands sink.new)
         ⊎ Clash (IsNeeded p (statements_of query.now)) (S.used shelf.new)) }
     // Whatever the root is of, it is the digest of a manifest where there is an answer.
-    ensures rooted { IfOk result (λ _. (found : Manifest) × (digest_word (manifest_bytes found) ≡ root.now.0)) }
+    ensures rooted { IfOk result
+        (λ _. (found : Manifest) × (digest_word (manifest_bytes found) ≡ root.now.0)) }
     // Without a budget no work is too much.
     ensures limited { most ≡ None → result ≢ Err (AnswerFault.Evaluation EvalFault.Work) }
     // Under the root of a publication there is an answer only where the query's work is within the budget, and its report has

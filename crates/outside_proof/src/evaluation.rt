@@ -39,16 +39,20 @@ pub(crate) fn evaluate_over<'a, S: Shelf<'a>>(
         → IfOk result (λ answer. Means p.objects (statements_of query.now) answer.items) }
     ensures needed { (p : Publication) → IsPublication p → root.now.0 ≡ root_of p
         → HasNoClash p (S.used shelf.new)
-        → OnOk result (GrownByAll (S.used shelf.old) (S.used shelf.new) (IsNeeded p (statements_of query.now))) }
-    ensures rooted { OnOk result ((found : Manifest) × (digest_word (manifest_bytes found) ≡ root.now.0)) }
+        → OnOk result
+        (GrownByAll (S.used shelf.old) (S.used shelf.new) (IsNeeded p (statements_of query.now))) }
+    ensures rooted { OnOk result
+        ((found : Manifest) × (digest_word (manifest_bytes found) ≡ root.now.0)) }
     ensures only { (p : Publication) → IsPublication p → root.now.0 ≡ root_of p
         → HasNoClash p (S.used shelf.new)
-        → IfErr result (λ fault. RefusedFor (IsNeeded p (statements_of query.now)) (S.holds shelf.new)
+        → IfErr result
+        (λ fault. RefusedFor (IsNeeded p (statements_of query.now)) (S.holds shelf.new)
         (cause_of_evaluation fault)) }
     ensures limited { most ≡ None → result ≢ Err EvalFault.Work }
     ensures within { (p : Publication) → IsPublication p → root.now.0 ≡ root_of p
         → HasNoClash p (S.used shelf.new)
-        → OnOk result (IsWithinBudget (WorkOfQuery (form_text Opl) p (statements_of query.now)) most) }
+        → OnOk result
+        (IsWithinBudget (WorkOfQuery (form_text Opl) p (statements_of query.now)) most) }
     ensures too_much { (p : Publication) → IsPublication p → root.now.0 ≡ root_of p
         → HasNoClash p (S.used shelf.new)
         → result ≡ Err EvalFault.Work

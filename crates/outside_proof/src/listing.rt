@@ -12,8 +12,10 @@ use tree_node::Part;
 pub(crate) fn list_parts(alloc: Global, parts: &[Part<'_>]) -> Result<Vec<u8>, OutsideFault>
     ensures listed { IfOk result (λ proof. proof.items ≡ listing (nodes_of parts.now)) }
     ensures fits { OnOk result (FitsProof (nodes_of parts.now)) }
-    ensures only { FitsProof (nodes_of parts.now) → IfErr result (λ fault. fault ≡ OutsideFault.Memory) }
-    ensures alone { IfErr result (λ fault. (fault ≡ OutsideFault.Memory) ⊎ (fault ≡ OutsideFault.TooLong)) }
+    ensures only { FitsProof (nodes_of parts.now)
+        → IfErr result (λ fault. fault ≡ OutsideFault.Memory) }
+    ensures alone { IfErr result
+        (λ fault. (fault ≡ OutsideFault.Memory) ⊎ (fault ≡ OutsideFault.TooLong)) }
 {
     if !fit_proof(parts) {
         return Err(OutsideFault::TooLong);

@@ -63,7 +63,8 @@ pub fn prove_over<'a, S: ProofShelf<'a>>(
     // Whatever the root is of, the proof lists nodes by rising digest,
     ensures listed { IfOk result (λ both. ListsRising both.proof.items) }
     // and the root is the digest of a manifest where there is an answer.
-    ensures rooted { OnOk result ((found : Manifest) × (digest_word (manifest_bytes found) ≡ root.now.0)) }
+    ensures rooted { OnOk result
+        ((found : Manifest) × (digest_word (manifest_bytes found) ≡ root.now.0)) }
     // Under the root of a publication it is refused for memory, for the budget or for a node that wasn't given alone.
     ensures only { (p : Publication) → IsPublication p → root.now.0 ≡ root_of p
         → HasNoClash p (S.used shelf.new)

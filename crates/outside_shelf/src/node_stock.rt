@@ -35,7 +35,8 @@ impl NodeStock {
     /// stock is as before: `Clash` (N6) comes exactly where another node has the digest, and `Memory` only for a new node.
     pub fn put(&mut self, node: NewNode) -> Result<Digest, PutFault>
         ensures key { IfOk result (λ key. key.0 ≡ digest_word node.bytes.items) }
-        ensures added { OnOk result (GrownBy (HasKept self.old) (HasKept self.new) node.bytes.items) }
+        ensures added { OnOk result
+            (GrownBy (HasKept self.old) (HasKept self.new) node.bytes.items) }
         ensures unchanged { OnErr result (SameNodes (HasKept self.old) (HasKept self.new)) }
         ensures clash { result ≡ Err PutFault.Clash
             → (x : List ℕ) × HasKept self.old x × (x ≢ node.bytes.items)

@@ -100,7 +100,8 @@ impl<'a, N: NodeSource + Drop> OutsideShelf<'a, N> {
     fn give(&mut self, key: &Digest) -> Result<&'a [u8], Refused>
         ensures given { IfOk result (λ node.
             HasBrought self.new node.now × (digest_word node.now ≡ key.now.0)) }
-        ensures grown { IfOk result (λ node. GrownBy (HasBrought self.old) (HasBrought self.new) node.now) }
+        ensures grown { IfOk result
+            (λ node. GrownBy (HasBrought self.old) (HasBrought self.new) node.now) }
         ensures unchanged { OnErr result (SameNodes (HasBrought self.old) (HasBrought self.new)) }
         ensures none { OnErr result (HasNone (HasBrought self.new) key.now.0) }
         ensures why { IfErr result (WasRefusedFor self.old self.new key.now) }
@@ -136,10 +137,12 @@ impl<'a, N: NodeSource + Drop> OutsideShelf<'a, N> {
     /// Reads the bytes that the source gives for this digest into the buffer.
     fn read(&mut self, key: &Digest) -> Result<(), Refused>
         ensures why { IfErr result (WasRefusedFor self.old self.new key.now) }
-        ensures within { OnOk result (ForSome (left_of self.old) (λ left. length (last_read self.new) ≤ left)) }
+        ensures within { OnOk result
+            (ForSome (left_of self.old) (λ left. length (last_read self.new) ≤ left)) }
         ensures spent { Spends self.old self.new (length (last_read self.new)) }
         ensures most { most_of self.new ≡ most_of self.old }
-        ensures room { OnOk result (HasRoomFor self.new.bound self.new.brought (last_read self.new)) }
+        ensures room { OnOk result
+            (HasRoomFor self.new.bound self.new.brought (last_read self.new)) }
         ensures brought { self.new.brought ≡ self.old.brought }
     {
         let at_most = self.at_most();
@@ -174,7 +177,8 @@ impl<'a, N: NodeSource + Drop> OutsideShelf<'a, N> {
         requires bytes { AreBytes (node_of part) }
         ensures node { IfOk result (λ node. node.now ≡ node_of part.entry) }
         ensures own { OnOk result (digest_word (node_of part.entry) ≡ key.now.0) }
-        ensures grown { OnOk result (GrownBy (HasBrought self.old) (HasBrought self.new) (node_of part.entry)) }
+        ensures grown { OnOk result
+            (GrownBy (HasBrought self.old) (HasBrought self.new) (node_of part.entry)) }
         ensures unchanged { OnErr result (SameNodes (HasBrought self.old) (HasBrought self.new)) }
         ensures why { IfErr result (λ reason. (reason ≡ Memory)
             ⊎ ((reason ≡ Other) × (digest_word (node_of part.entry) ≢ key.now.0))) }
@@ -223,11 +227,13 @@ impl<'a, N: NodeSource + Drop> Shelf<'a> for OutsideShelf<'a, N> {
     fn fetch(&mut self, key: &Digest) -> Result<&'a [u8], ShelfFault>
         ensures given { IfOk result (λ node.
             HasBrought self.new node.now × (digest_word node.now ≡ key.now.0)) }
-        ensures grown { IfOk result (λ node. GrownBy (HasBrought self.old) (HasBrought self.new) node.now) }
+        ensures grown { IfOk result
+            (λ node. GrownBy (HasBrought self.old) (HasBrought self.new) node.now) }
         ensures grows { (x : List ℕ) → HasBrought self.old x → HasBrought self.new x }
         ensures unchanged { OnErr result (SameNodes (HasBrought self.old) (HasBrought self.new)) }
         ensures stays { Stays false (HasBrought self.old) (HasBrought self.new) }
-        ensures missing { result ≡ Err ShelfFault.Missing → HasNone (HasBrought self.new) key.now.0 }
+        ensures missing { result ≡ Err ShelfFault.Missing
+            → HasNone (HasBrought self.new) key.now.0 }
         ensures none { false ≡ true → HasNone (HasBrought self.new) key.now.0
             → result ≡ Err ShelfFault.Missing }
         ensures memory { result ≡ Err ShelfFault.Memory → true ≡ true }
@@ -263,7 +269,8 @@ impl<'a, N: NodeSource + Drop> Shelf<'a> for OutsideShelf<'a, N> {
         ensures grows { (x : List ℕ) → HasBrought self.old x → HasBrought self.new x }
         ensures unchanged { OnErr result (SameNodes (HasBrought self.old) (HasBrought self.new)) }
         ensures stays { Stays false (HasBrought self.old) (HasBrought self.new) }
-        ensures missing { result ≡ Err ShelfFault.Missing → HasNone (HasBrought self.new) key.now.0 }
+        ensures missing { result ≡ Err ShelfFault.Missing
+            → HasNone (HasBrought self.new) key.now.0 }
         ensures none { false ≡ true → HasNone (HasBrought self.new) key.now.0
             → result ≡ Err ShelfFault.Missing }
         ensures memory { result ≡ Err ShelfFault.Memory → true ≡ true }

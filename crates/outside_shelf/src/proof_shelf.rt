@@ -48,7 +48,8 @@ impl<'a, N: NodeSource + Drop> ProofShelf<'a> for StockedShelf<'a, N> {
     ghost use Rattle.outside_shelf.specs.internal.StockedLaws.{bytes_together};
 
     ghost used_bytes = { λ shelf. bytes_together (λ node is. shelf.stocked node
-        (given_held (owned_at shelf.recorder.stock.now.nodes) (lent_at shelf.recorder.given) shelf.recorder.own node is))
+        (given_held (owned_at shelf.recorder.stock.now.nodes)
+        (lent_at shelf.recorder.given) shelf.recorder.own node is))
         (λ node is. shelf.outside.bytes (key_of node) node is) };
 
     fn used_parts(&self, alloc: Global) -> Result<Vec<Part<'a>>, AllocError> {

@@ -127,7 +127,8 @@ impl<'a, N: NodeSource + Drop> StockedShelf<'a, N> {
             → HasNone (HasBrought (outside_of self.new)) key.now.0 }
         ensures told { IfErr result (StockedTells self.old self.new key.now) }
         ensures reset { OnOk result (reason_in self.new ≡ None) }
-        ensures costs { IfOk result (λ node. CostsFor (outside_of self.old) (outside_of self.new) node.now) }
+        ensures costs { IfOk result
+            (λ node. CostsFor (outside_of self.old) (outside_of self.new) node.now) }
         ensures spent { OnErr result (Spends (outside_of self.old) (outside_of self.new)
             (length (last_read (outside_of self.new)))) }
         ensures most { most_of (outside_of self.new) ≡ most_of (outside_of self.old) }
@@ -157,20 +158,24 @@ impl<'a, N: NodeSource + Drop> Shelf<'a> for StockedShelf<'a, N> {
     ghost takes_memory = { true };
 
     ghost clash_free = { λ shelf. free_together (HasStocked shelf) (HasBrought (outside_of shelf))
-        (stands_once (owned_at shelf.recorder.stock.now.nodes)) (stands_once (brought_at shelf.outside.brought)) shelf.apart };
+        (stands_once (owned_at shelf.recorder.stock.now.nodes))
+        (stands_once (brought_at shelf.outside.brought)) shelf.apart };
 
     ghost used_held = { λ shelf. held_together (RecorderUsed shelf.recorder) (HasStocked shelf) (HasBrought (outside_of shelf))
-        (given_held (owned_at shelf.recorder.stock.now.nodes) (lent_at shelf.recorder.given) shelf.recorder.own) };
+        (given_held (owned_at shelf.recorder.stock.now.nodes)
+        (lent_at shelf.recorder.given) shelf.recorder.own) };
 
     /// It asks the source only for a node that the stock hasn't, and that wasn't brought before.
     fn fetch(&mut self, key: &Digest) -> Result<&'a [u8], ShelfFault>
         ensures given { IfOk result (λ node.
             StockedHolds self.new node.now × (digest_word node.now ≡ key.now.0)) }
-        ensures grown { IfOk result (λ node. GrownBy (StockedUsed self.old) (StockedUsed self.new) node.now) }
+        ensures grown { IfOk result
+            (λ node. GrownBy (StockedUsed self.old) (StockedUsed self.new) node.now) }
         ensures grows { (x : List ℕ) → StockedUsed self.old x → StockedUsed self.new x }
         ensures unchanged { OnErr result (SameNodes (StockedUsed self.old) (StockedUsed self.new)) }
         ensures stays { Stays false (StockedHolds self.old) (StockedHolds self.new) }
-        ensures missing { result ≡ Err ShelfFault.Missing → HasNone (StockedHolds self.new) key.now.0 }
+        ensures missing { result ≡ Err ShelfFault.Missing
+            → HasNone (StockedHolds self.new) key.now.0 }
         ensures none { false ≡ true → HasNone (StockedHolds self.new) key.now.0
             → result ≡ Err ShelfFault.Missing }
         ensures memory { result ≡ Err ShelfFault.Memory → true ≡ true }
@@ -211,7 +216,8 @@ impl<'a, N: NodeSource + Drop> Shelf<'a> for StockedShelf<'a, N> {
         ensures grows { (x : List ℕ) → StockedUsed self.old x → StockedUsed self.new x }
         ensures unchanged { OnErr result (SameNodes (StockedUsed self.old) (StockedUsed self.new)) }
         ensures stays { Stays false (StockedHolds self.old) (StockedHolds self.new) }
-        ensures missing { result ≡ Err ShelfFault.Missing → HasNone (StockedHolds self.new) key.now.0 }
+        ensures missing { result ≡ Err ShelfFault.Missing
+            → HasNone (StockedHolds self.new) key.now.0 }
         ensures none { false ≡ true → HasNone (StockedHolds self.new) key.now.0
             → result ≡ Err ShelfFault.Missing }
         ensures memory { result ≡ Err ShelfFault.Memory → true ≡ true }

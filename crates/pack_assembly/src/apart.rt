@@ -14,13 +14,15 @@ use tree_node::Digest;
 
 /// Refused with `Clash` where two of these digests are equal, and where the sorter refuses.
 pub(crate) fn check_apart<S: RunStore>(digests: Sorter<S>) -> Result<(), AssemblyFault>
-    ensures apart { S.is_true ≡ true → (records : List Entry) → Holds S.runs S.in_hand digests records
+    ensures apart { S.is_true ≡ true → (records : List Entry)
+        → Holds S.runs S.in_hand digests records
         → OnOk result (IsDistinct bytes_eq (keys_in records)) }
     ensures clash { result ≡ Err AssemblyFault.Clash → S.is_true ≡ true → (records : List Entry)
         → Holds S.runs S.in_hand digests records → ¬ IsDistinct bytes_eq (keys_in records) }
     ensures short { result ≢ Err AssemblyFault.TooLong }
     ensures device { S.may_refuse ≡ false → S.is_true ≡ true → (records : List Entry)
-        → Holds S.runs S.in_hand digests records → AreDigests records → result ≢ Err AssemblyFault.Device }
+        → Holds S.runs S.in_hand digests records → AreDigests records
+        → result ≢ Err AssemblyFault.Device }
 {
     match digests.finish() {
         Ok(mut sorted) => check_sorted(&mut sorted),

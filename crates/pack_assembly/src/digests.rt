@@ -28,11 +28,16 @@ pub(crate) fn push_row<L: NodeLevels, S: RunStore>(
     node: &mut Vec<u8>,
     digests: &mut Sorter<S>,
 ) -> Result<(), Refusal>
-    ensures held { L.is_true ≡ true → (p : Publication) → IsPublication p → AreLevelsOf p trees.now (L.nodes levels.old)
-        → Contains (rows_in p) row → OnOk result ((records : List Entry) → Holds S.runs S.in_hand digests.old records
-        → Holds S.runs S.in_hand digests.new (records ++ key_entries (digests_of (nodes_in p row)))) }
-    ensures device { L.is_true ≡ true → L.may_refuse ≡ false → S.may_refuse ≡ false → (p : Publication)
-        → IsPublication p → AreLevelsOf p trees.now (L.nodes levels.old) → result ≢ Err Refusal.Device }
+    ensures held { L.is_true ≡ true → (p : Publication) → IsPublication p
+        → AreLevelsOf p trees.now (L.nodes levels.old)
+        → Contains (rows_in p) row
+        → OnOk result ((records : List Entry) → Holds S.runs S.in_hand digests.old records
+        → Holds S.runs S.in_hand digests.new
+        (records ++ key_entries (digests_of (nodes_in p row)))) }
+    ensures device { L.is_true ≡ true → L.may_refuse ≡ false → S.may_refuse ≡ false
+        → (p : Publication)
+        → IsPublication p → AreLevelsOf p trees.now (L.nodes levels.old)
+        → result ≢ Err Refusal.Device }
     ensures nodes { OnOk result (L.nodes levels.new ≡ L.nodes levels.old) }
 {
     if row.level >= trees.height(row.tree).saturating_sub(1) {
@@ -52,9 +57,12 @@ fn push_below<L: NodeLevels, S: RunStore>(
     ensures held { L.is_true ≡ true → (nodes : List Node) → AllByRecursion IsNode nodes
         → L.nodes levels.old tree level ≡ spellings nodes
         → OnOk result ((records : List Entry) → Holds S.runs S.in_hand digests.old records
-        → Holds S.runs S.in_hand digests.new (records ++ key_entries (flat_map child_digests nodes))) }
-    ensures device { L.is_true ≡ true → L.may_refuse ≡ false → S.may_refuse ≡ false → (nodes : List Node)
-        → AllByRecursion (IsOfLevel level) nodes → 0 < level → L.nodes levels.old tree level ≡ spellings nodes
+        → Holds S.runs S.in_hand digests.new
+        (records ++ key_entries (flat_map child_digests nodes))) }
+    ensures device { L.is_true ≡ true → L.may_refuse ≡ false → S.may_refuse ≡ false
+        → (nodes : List Node)
+        → AllByRecursion (IsOfLevel level) nodes → 0 < level
+        → L.nodes levels.old tree level ≡ spellings nodes
         → length nodes ≤ 2 ^ 29 → result ≢ Err Refusal.Device }
     ensures nodes { OnOk result (L.nodes levels.new ≡ L.nodes levels.old) }
 {
@@ -73,7 +81,8 @@ fn push_children<S: RunStore>(node: &[u8], digests: &mut Sorter<S>) -> Result<()
     ensures held { (inner : Node) → Spells node.now inner
         → OnOk result ((records : List Entry) → Holds S.runs S.in_hand digests.old records
         → Holds S.runs S.in_hand digests.new (records ++ key_entries (child_digests inner))) }
-    ensures device { S.may_refuse ≡ false → (inner : Node) → Spells node.now inner → 0 < level_of inner
+    ensures device { S.may_refuse ≡ false → (inner : Node) → Spells node.now inner
+        → 0 < level_of inner
         → result ≢ Err Refusal.Device }
 {
     match NodeRef::read(node) {

@@ -31,7 +31,8 @@ pub(crate) fn front_of(
     size: u64,
     manifest: &[u8],
 ) -> Result<Vec<u8>, AllocError>
-    ensures { length manifest.now ≤ 141 → IfOk result (λ front. front.items ≡ front_bytes root.now size manifest.now) }
+    ensures { length manifest.now ≤ 141
+        → IfOk result (λ front. front.items ≡ front_bytes root.now size manifest.now) }
 {
     let mut front = Vec::new(alloc);
     append_header(root, size, manifest_record_len(manifest), &mut front)?;
@@ -55,7 +56,8 @@ fn append_header(
     manifest_len: u32,
     out: &mut Vec<u8>,
 ) -> Result<(), AllocError>
-    ensures { OnOk result (out.new.items ≡ out.old.items ++ header_bytes (header_with root.now size manifest_len)) }
+    ensures { OnOk result
+        (out.new.items ≡ out.old.items ++ header_bytes (header_with root.now size manifest_len)) }
 {
     out.extend_from_slice(&MAGIC.to_be_bytes())?;
     out.extend_from_slice(&VERSION.to_be_bytes())?;

@@ -43,9 +43,11 @@ pub(crate) fn lay_out<L: NodeLevels>(
     levels: &mut L,
 ) -> Result<Layout, AssemblyFault>
     requires { first ≤ 2 ^ 48 }
-    ensures laid { L.is_true ≡ true → (p : Publication) → IsPublication p → AreNodesOf p (L.nodes levels.old)
+    ensures laid { L.is_true ≡ true → (p : Publication) → IsPublication p
+        → AreNodesOf p (L.nodes levels.old)
         → IfOk result (IsLaidOut (kepts_in p) first rows.now) }
-    ensures too_long { result ≡ Err AssemblyFault.TooLong → L.is_true ≡ true → (p : Publication) → IsPublication p
+    ensures too_long { result ≡ Err AssemblyFault.TooLong → L.is_true ≡ true → (p : Publication)
+        → IsPublication p
         → AreNodesOf p (L.nodes levels.old)
         → AreLong first (flat_map (kepts_in p) rows.now) }
     ensures clash { result ≢ Err AssemblyFault.Clash }
@@ -109,9 +111,11 @@ fn next_len<L: NodeLevels>(row: Row, levels: &mut L) -> Result<Option<NodeLen>, 
 fn end_of_record(at: u64, len: NodeLen) -> Result<u64, AssemblyFault>
     requires { at ≤ 2 ^ 48 }
     ensures { MatchResult result
-        (λ end. (end ≡ at + (4 + (len.bytes + 12 * len.children))) × (end ≤ 2 ^ 48) × (4 + (len.bytes + 12 * len.children) < 2 ^ 32))
+        (λ end. (end ≡ at + (4 + (len.bytes + 12 * len.children))) × (end ≤ 2 ^ 48)
+        × (4 + (len.bytes + 12 * len.children) < 2 ^ 32))
         (λ fault. (fault ≡ AssemblyFault.TooLong)
-        × ((2 ^ 32 ≤ 4 + (len.bytes + 12 * len.children)) ⊎ (2 ^ 48 < at + (4 + (len.bytes + 12 * len.children))))) }
+        × ((2 ^ 32 ≤ 4 + (len.bytes + 12 * len.children))
+        ⊎ (2 ^ 48 < at + (4 + (len.bytes + 12 * len.children))))) }
 {
     let Some(len) = record_len(len) else {
         return Err(AssemblyFault::TooLong);

@@ -73,8 +73,10 @@ fn lower_row(row: Row) -> Row
 /// Goes back to the first node of a level, and to the first length of the level below.
 fn rewind_both<L: NodeLevels>(row: Row, levels: &mut L)
     ensures nodes { L.nodes levels.new ≡ L.nodes levels.old }
-    ensures unread { L.unread levels.new row.tree row.level ≡ L.nodes levels.old row.tree row.level }
-    ensures unmeasured { L.unmeasured levels.new row.tree (row.level - 1) ≡ L.nodes levels.old row.tree (row.level - 1) }
+    ensures unread { L.unread levels.new row.tree row.level
+        ≡ L.nodes levels.old row.tree row.level }
+    ensures unmeasured { L.unmeasured levels.new row.tree (row.level - 1)
+        ≡ L.nodes levels.old row.tree (row.level - 1) }
 {
     let lower = lower_row(row);
     levels.rewind(lower.tree, lower.level);
@@ -89,25 +91,36 @@ fn write_record<L: NodeLevels, W: Write>(
     levels: &mut L,
     writer: &mut W,
 ) -> Result<(), Unwritten>
-    ensures whole { L.is_true ≡ true → (place_of : List ℕ → Option Place) (own : Node) (others lower : List Node)
+    ensures whole { L.is_true ≡ true
+        → (place_of : List ℕ → Option Place) (own : Node) (others lower : List Node)
         → node.now ≡ spelling own
-        → AreParentsOf place_of (L.unmeasured levels.old row.tree (row.level - 1)) row at.old (own ∷ others) lower
-        → OnOk result (Appends (W.contents writer.old) (W.contents writer.new) (record_bytes place_of (kept_of own))) }
-    ensures past { L.is_true ≡ true → (place_of : List ℕ → Option Place) (own : Node) (others lower : List Node)
+        → AreParentsOf place_of (L.unmeasured levels.old row.tree (row.level - 1)) row at.old
+        (own ∷ others) lower
+        → OnOk result
+        (Appends (W.contents writer.old) (W.contents writer.new)
+        (record_bytes place_of (kept_of own))) }
+    ensures past { L.is_true ≡ true
+        → (place_of : List ℕ → Option Place) (own : Node) (others lower : List Node)
         → node.now ≡ spelling own
-        → AreParentsOf place_of (L.unmeasured levels.old row.tree (row.level - 1)) row at.old (own ∷ others) lower
-        → OnOk result (AreParentsOf place_of (L.unmeasured levels.new row.tree (row.level - 1)) row at.new others
+        → AreParentsOf place_of (L.unmeasured levels.old row.tree (row.level - 1)) row at.old
+        (own ∷ others) lower
+        → OnOk result
+        (AreParentsOf place_of (L.unmeasured levels.new row.tree (row.level - 1)) row at.new others
         (drop (length (links_in own)) lower)) }
-    ensures begun { L.is_true ≡ true → (place_of : List ℕ → Option Place) (own : Node) (others lower : List Node)
+    ensures begun { L.is_true ≡ true
+        → (place_of : List ℕ → Option Place) (own : Node) (others lower : List Node)
         → node.now ≡ spelling own
-        → AreParentsOf place_of (L.unmeasured levels.old row.tree (row.level - 1)) row at.old (own ∷ others) lower
-        → AppendsFront (W.contents writer.old) (W.contents writer.new) (record_bytes place_of (kept_of own)) }
+        → AreParentsOf place_of (L.unmeasured levels.old row.tree (row.level - 1)) row at.old
+        (own ∷ others) lower
+        → AppendsFront (W.contents writer.old) (W.contents writer.new)
+        (record_bytes place_of (kept_of own)) }
     ensures nodes { OnOk result (L.nodes levels.new ≡ L.nodes levels.old) }
     ensures unread { OnOk result (L.unread levels.new ≡ L.unread levels.old) }
     ensures device { L.is_true ≡ true → L.may_refuse ≡ false
         → (place_of : List ℕ → Option Place) (own : Node) (others lower : List Node)
         → node.now ≡ spelling own
-        → AreParentsOf place_of (L.unmeasured levels.old row.tree (row.level - 1)) row at.old (own ∷ others) lower
+        → AreParentsOf place_of (L.unmeasured levels.old row.tree (row.level - 1)) row at.old
+        (own ∷ others) lower
         → result ≢ Err Unwritten.Device }
 {
     if node.len() > NODE_LIMIT {
@@ -129,24 +142,35 @@ fn write_children<L: NodeLevels, W: Write>(
     levels: &mut L,
     writer: &mut W,
 ) -> Result<(), Unwritten>
-    ensures whole { L.is_true ≡ true → (place_of : List ℕ → Option Place) (own : Node) (others lower : List Node)
-        → AreParentsOf place_of (L.unmeasured levels.old row.tree (row.level - 1)) row at.old (own ∷ others) lower
+    ensures whole { L.is_true ≡ true
+        → (place_of : List ℕ → Option Place) (own : Node) (others lower : List Node)
+        → AreParentsOf place_of (L.unmeasured levels.old row.tree (row.level - 1)) row at.old
+        (own ∷ others) lower
         → count ≡ length (links_in own)
-        → OnOk result (Appends (W.contents writer.old) (W.contents writer.new) (table place_of (child_digests own))) }
-    ensures past { L.is_true ≡ true → (place_of : List ℕ → Option Place) (own : Node) (others lower : List Node)
-        → AreParentsOf place_of (L.unmeasured levels.old row.tree (row.level - 1)) row at.old (own ∷ others) lower
+        → OnOk result
+        (Appends (W.contents writer.old) (W.contents writer.new)
+        (table place_of (child_digests own))) }
+    ensures past { L.is_true ≡ true
+        → (place_of : List ℕ → Option Place) (own : Node) (others lower : List Node)
+        → AreParentsOf place_of (L.unmeasured levels.old row.tree (row.level - 1)) row at.old
+        (own ∷ others) lower
         → count ≡ length (links_in own)
-        → OnOk result (AreParentsOf place_of (L.unmeasured levels.new row.tree (row.level - 1)) row at.new others
+        → OnOk result
+        (AreParentsOf place_of (L.unmeasured levels.new row.tree (row.level - 1)) row at.new others
         (drop count lower)) }
-    ensures begun { L.is_true ≡ true → (place_of : List ℕ → Option Place) (own : Node) (others lower : List Node)
-        → AreParentsOf place_of (L.unmeasured levels.old row.tree (row.level - 1)) row at.old (own ∷ others) lower
+    ensures begun { L.is_true ≡ true
+        → (place_of : List ℕ → Option Place) (own : Node) (others lower : List Node)
+        → AreParentsOf place_of (L.unmeasured levels.old row.tree (row.level - 1)) row at.old
+        (own ∷ others) lower
         → count ≡ length (links_in own)
-        → AppendsFront (W.contents writer.old) (W.contents writer.new) (table place_of (child_digests own)) }
+        → AppendsFront (W.contents writer.old) (W.contents writer.new)
+        (table place_of (child_digests own)) }
     ensures nodes { OnOk result (L.nodes levels.new ≡ L.nodes levels.old) }
     ensures unread { OnOk result (L.unread levels.new ≡ L.unread levels.old) }
     ensures device { L.is_true ≡ true → L.may_refuse ≡ false
         → (place_of : List ℕ → Option Place) (own : Node) (others lower : List Node)
-        → AreParentsOf place_of (L.unmeasured levels.old row.tree (row.level - 1)) row at.old (own ∷ others) lower
+        → AreParentsOf place_of (L.unmeasured levels.old row.tree (row.level - 1)) row at.old
+        (own ∷ others) lower
         → count ≡ length (links_in own) → result ≢ Err Unwritten.Device }
 {
     if count == 0 {

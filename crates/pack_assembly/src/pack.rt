@@ -55,7 +55,9 @@ pub fn write_pack_of_levels<L: NodeLevels, S: RunStore, W: Write>(
     // What is written is a pack of the publication, and the root is given.
     ensures written { L.is_true ≡ true → S.is_true ≡ true → Holds S.runs S.in_hand digests []
         → (p : Publication) → IsPublication p → AreLevelsOf p trees.now (L.nodes levels.old)
-        → IfOk result (λ root. (root.0 ≡ root_of p) × IsPacked p (W.contents writer.old) (W.contents writer.new)) }
+        → IfOk result
+        (λ root. (root.0 ≡ root_of p)
+        × IsPacked p (W.contents writer.old) (W.contents writer.new)) }
     // Two different nodes of the publication have one digest where it says so,
     ensures clash { result ≡ Err AssemblyFault.Clash → L.is_true ≡ true → S.is_true ≡ true
         → Holds S.runs S.in_hand digests [] → (p : Publication) → IsPublication p
@@ -65,14 +67,17 @@ pub fn write_pack_of_levels<L: NodeLevels, S: RunStore, W: Write>(
         → Holds S.runs S.in_hand digests [] → (p : Publication) → IsPublication p
         → AreLevelsOf p trees.now (L.nodes levels.old) → IsTooLong p }
     // Nothing is written but where the device or the writer fails,
-    ensures untouched { IfErr result (λ fault. fault ≢ AssemblyFault.Device → fault ≢ AssemblyFault.NotWritten
+    ensures untouched { IfErr result
+        (λ fault. fault ≢ AssemblyFault.Device → fault ≢ AssemblyFault.NotWritten
         → writer.new ≡ writer.old) }
     // and then no more than a beginning of the pack.
     ensures begun { L.is_true ≡ true → S.is_true ≡ true → Holds S.runs S.in_hand digests []
         → (p : Publication) → IsPublication p → AreLevelsOf p trees.now (L.nodes levels.old)
-        → OnErr result (HasBegun p (W.contents writer.old) (W.contents writer.new) ⊎ (writer.new ≡ writer.old)) }
+        → OnErr result
+        (HasBegun p (W.contents writer.old) (W.contents writer.new) ⊎ (writer.new ≡ writer.old)) }
     // Where no device refuses and each gives back what it was given, none is at fault.
-    ensures device { L.may_refuse ≡ false → S.may_refuse ≡ false → L.is_true ≡ true → S.is_true ≡ true
+    ensures device { L.may_refuse ≡ false → S.may_refuse ≡ false → L.is_true ≡ true
+        → S.is_true ≡ true
         → Holds S.runs S.in_hand digests [] → (p : Publication) → IsPublication p
         → AreLevelsOf p trees.now (L.nodes levels.old) → result ≢ Err AssemblyFault.Device }
 {
@@ -125,18 +130,24 @@ fn lay_out_apart<L: NodeLevels, S: RunStore>(
     ensures ready { L.is_true ≡ true → S.is_true ≡ true → Holds S.runs S.in_hand digests []
         → (p : Publication) → IsPublication p → AreLevelsOf p trees.now (L.nodes levels.old)
         → root.now.0 ≡ root_of p → rows.now ≡ rows_in p → first ≡ 60 + record_len (manifest_kept p)
-        → IfOk result (λ layout. IsReady p (L.nodes levels.old) layout.rows.items × (layout.size ≡ 60 + lens (all_kepts p))) }
+        → IfOk result
+        (λ layout. IsReady p (L.nodes levels.old) layout.rows.items
+        × (layout.size ≡ 60 + lens (all_kepts p))) }
     ensures clash { result ≡ Err AssemblyFault.Clash → L.is_true ≡ true → S.is_true ≡ true
         → Holds S.runs S.in_hand digests [] → (p : Publication) → IsPublication p
-        → AreLevelsOf p trees.now (L.nodes levels.old) → root.now.0 ≡ root_of p → rows.now ≡ rows_in p
+        → AreLevelsOf p trees.now (L.nodes levels.old) → root.now.0 ≡ root_of p
+        → rows.now ≡ rows_in p
         → Clash (IsNodeIn p) (IsNodeIn p) }
     ensures too_long { result ≡ Err AssemblyFault.TooLong → L.is_true ≡ true → S.is_true ≡ true
         → Holds S.runs S.in_hand digests [] → (p : Publication) → IsPublication p
-        → AreLevelsOf p trees.now (L.nodes levels.old) → root.now.0 ≡ root_of p → rows.now ≡ rows_in p
+        → AreLevelsOf p trees.now (L.nodes levels.old) → root.now.0 ≡ root_of p
+        → rows.now ≡ rows_in p
         → first ≡ 60 + record_len (manifest_kept p) → IsTooLong p }
-    ensures device { L.is_true ≡ true → L.may_refuse ≡ false → S.is_true ≡ true → S.may_refuse ≡ false
+    ensures device { L.is_true ≡ true → L.may_refuse ≡ false → S.is_true ≡ true
+        → S.may_refuse ≡ false
         → Holds S.runs S.in_hand digests [] → (p : Publication) → IsPublication p
-        → AreLevelsOf p trees.now (L.nodes levels.old) → root.now.0 ≡ root_of p → rows.now ≡ rows_in p
+        → AreLevelsOf p trees.now (L.nodes levels.old) → root.now.0 ≡ root_of p
+        → rows.now ≡ rows_in p
         → result ≢ Err AssemblyFault.Device }
     ensures nodes { OnOk result (L.nodes levels.new ≡ L.nodes levels.old) }
 {
@@ -160,12 +171,15 @@ fn check_nodes<L: NodeLevels, S: RunStore>(
         → root.now.0 ≡ root_of p → rows.now ≡ rows_in p → OnOk result (AreApart (all_kepts p)) }
     ensures clash { result ≡ Err AssemblyFault.Clash → L.is_true ≡ true → S.is_true ≡ true
         → Holds S.runs S.in_hand digests [] → (p : Publication) → IsPublication p
-        → AreLevelsOf p trees.now (L.nodes levels.old) → root.now.0 ≡ root_of p → rows.now ≡ rows_in p
+        → AreLevelsOf p trees.now (L.nodes levels.old) → root.now.0 ≡ root_of p
+        → rows.now ≡ rows_in p
         → Clash (IsNodeIn p) (IsNodeIn p) }
     ensures short { result ≢ Err AssemblyFault.TooLong }
-    ensures device { L.is_true ≡ true → L.may_refuse ≡ false → S.is_true ≡ true → S.may_refuse ≡ false
+    ensures device { L.is_true ≡ true → L.may_refuse ≡ false → S.is_true ≡ true
+        → S.may_refuse ≡ false
         → Holds S.runs S.in_hand digests [] → (p : Publication) → IsPublication p
-        → AreLevelsOf p trees.now (L.nodes levels.old) → root.now.0 ≡ root_of p → rows.now ≡ rows_in p
+        → AreLevelsOf p trees.now (L.nodes levels.old) → root.now.0 ≡ root_of p
+        → rows.now ≡ rows_in p
         → result ≢ Err AssemblyFault.Device }
     ensures nodes { OnOk result (L.nodes levels.new ≡ L.nodes levels.old) }
 {
@@ -182,11 +196,15 @@ fn push_nodes<L: NodeLevels, S: RunStore>(
     node: &mut Vec<u8>,
     digests: &mut Sorter<S>,
 ) -> Result<(), Refusal>
-    ensures held { L.is_true ≡ true → (p : Publication) → IsPublication p → AreLevelsOf p trees.now (L.nodes levels.old)
-        → rows.now ≡ rows_in p → OnOk result (Holds S.runs S.in_hand digests.old [] → Holds S.runs S.in_hand digests.new
+    ensures held { L.is_true ≡ true → (p : Publication) → IsPublication p
+        → AreLevelsOf p trees.now (L.nodes levels.old)
+        → rows.now ≡ rows_in p
+        → OnOk result (Holds S.runs S.in_hand digests.old [] → Holds S.runs S.in_hand digests.new
         (key_entries (root.now.0 ∷ flat_map (λ row. digests_of (nodes_in p row)) rows.now))) }
-    ensures device { L.is_true ≡ true → L.may_refuse ≡ false → S.may_refuse ≡ false → (p : Publication)
-        → IsPublication p → AreLevelsOf p trees.now (L.nodes levels.old) → result ≢ Err Refusal.Device }
+    ensures device { L.is_true ≡ true → L.may_refuse ≡ false → S.may_refuse ≡ false
+        → (p : Publication)
+        → IsPublication p → AreLevelsOf p trees.now (L.nodes levels.old)
+        → result ≢ Err Refusal.Device }
     ensures nodes { OnOk result (L.nodes levels.new ≡ L.nodes levels.old) }
 {
     push_digest(root, digests)?;
@@ -207,7 +225,8 @@ fn write_parts<L: NodeLevels, W: Write>(
 ) -> Result<(), Unwritten>
     ensures whole { L.is_true ≡ true → (p : Publication) → IsReady p (L.nodes levels.old) rows.now
         → AreHeightsOf p trees.now.heights
-        → OnOk result (Appends (W.contents writer.old) (W.contents writer.new) (front.now ++ rest_of p)) }
+        → OnOk result
+        (Appends (W.contents writer.old) (W.contents writer.new) (front.now ++ rest_of p)) }
     ensures begun { L.is_true ≡ true → (p : Publication) → IsReady p (L.nodes levels.old) rows.now
         → AreHeightsOf p trees.now.heights
         → AppendsFront (W.contents writer.old) (W.contents writer.new) (front.now ++ rest_of p) }
@@ -279,7 +298,8 @@ fn write_rows<L: NodeLevels, W: Write>(
     writer: &mut W,
 ) -> Result<(), Unwritten>
     ensures whole { L.is_true ≡ true → (p : Publication) → IsReady p (L.nodes levels.old) rows.now
-        → OnOk result (Appends (W.contents writer.old) (W.contents writer.new) (rows_bytes p rows.now)) }
+        → OnOk result
+        (Appends (W.contents writer.old) (W.contents writer.new) (rows_bytes p rows.now)) }
     ensures begun { L.is_true ≡ true → (p : Publication) → IsReady p (L.nodes levels.old) rows.now
         → AppendsFront (W.contents writer.old) (W.contents writer.new) (rows_bytes p rows.now) }
     ensures device { L.is_true ≡ true → L.may_refuse ≡ false → (p : Publication)
@@ -306,7 +326,8 @@ fn write_row<L: NodeLevels, W: Write>(
         → Contains (rows_in p) row
         → AppendsFront (W.contents writer.old) (W.contents writer.new) (row_bytes p row) }
     ensures device { L.is_true ≡ true → L.may_refuse ≡ false → (p : Publication)
-        → IsReady p (L.nodes levels.old) rows.now → Contains (rows_in p) row → result ≢ Err Unwritten.Device }
+        → IsReady p (L.nodes levels.old) rows.now → Contains (rows_in p) row
+        → result ≢ Err Unwritten.Device }
     ensures nodes { OnOk result (L.nodes levels.new ≡ L.nodes levels.old) }
 {
     let Some(below) = below_row(row, rows) else {

@@ -28,7 +28,8 @@ pub(crate) fn rows_of_heights(alloc: Global, heights: &[u8; 4]) -> Result<Vec<Ro
 
 /// Adds the levels from one up to below another, tree by tree.
 fn push_levels(heights: &[u8; 4], low: u8, high: u8, rows: &mut Vec<Row>) -> Result<(), AllocError>
-    ensures { OnOk result (rows.new.items ≡ rows.old.items ++ in_trees (height_among heights.now) low high) }
+    ensures { OnOk result
+        (rows.new.items ≡ rows.old.items ++ in_trees (height_among heights.now) low high) }
 {
     push_down(Tree::Objects, low, heights[0].min(high), rows)?;
     push_down(Tree::Tags, low, heights[1].min(high), rows)?;

@@ -28,18 +28,27 @@ pub(crate) fn write_table<L: NodeLevels, W: Write>(
     writer: &mut W,
 ) -> Result<(), Unwritten>
     ensures whole { L.is_true ≡ true → (place_of : List ℕ → Option Place) (nodes : List Node)
-        → IsAmong place_of (L.unmeasured levels.old row.tree row.level) at.old nodes → count ≤ length nodes
-        → OnOk result (Appends (W.contents writer.old) (W.contents writer.new) (table place_of (digests_of (take count nodes)))) }
+        → IsAmong place_of (L.unmeasured levels.old row.tree row.level) at.old nodes
+        → count ≤ length nodes
+        → OnOk result
+        (Appends (W.contents writer.old) (W.contents writer.new)
+        (table place_of (digests_of (take count nodes)))) }
     ensures past { L.is_true ≡ true → (place_of : List ℕ → Option Place) (nodes : List Node)
-        → IsAmong place_of (L.unmeasured levels.old row.tree row.level) at.old nodes → count ≤ length nodes
-        → OnOk result (IsAmong place_of (L.unmeasured levels.new row.tree row.level) at.new (drop count nodes)) }
+        → IsAmong place_of (L.unmeasured levels.old row.tree row.level) at.old nodes
+        → count ≤ length nodes
+        → OnOk result
+        (IsAmong place_of (L.unmeasured levels.new row.tree row.level) at.new (drop count nodes)) }
     ensures begun { L.is_true ≡ true → (place_of : List ℕ → Option Place) (nodes : List Node)
-        → IsAmong place_of (L.unmeasured levels.old row.tree row.level) at.old nodes → count ≤ length nodes
-        → AppendsFront (W.contents writer.old) (W.contents writer.new) (table place_of (digests_of (take count nodes))) }
+        → IsAmong place_of (L.unmeasured levels.old row.tree row.level) at.old nodes
+        → count ≤ length nodes
+        → AppendsFront (W.contents writer.old) (W.contents writer.new)
+        (table place_of (digests_of (take count nodes))) }
     ensures nodes { OnOk result (L.nodes levels.new ≡ L.nodes levels.old) }
     ensures unread { OnOk result (L.unread levels.new ≡ L.unread levels.old) }
-    ensures device { L.is_true ≡ true → L.may_refuse ≡ false → (place_of : List ℕ → Option Place) (nodes : List Node)
-        → IsAmong place_of (L.unmeasured levels.old row.tree row.level) at.old nodes → count ≤ length nodes
+    ensures device { L.is_true ≡ true → L.may_refuse ≡ false
+        → (place_of : List ℕ → Option Place) (nodes : List Node)
+        → IsAmong place_of (L.unmeasured levels.old row.tree row.level) at.old nodes
+        → count ≤ length nodes
         → result ≢ Err Unwritten.Device }
 {
     for _ in 0..count {
@@ -55,15 +64,22 @@ fn write_next_place<L: NodeLevels, W: Write>(
     levels: &mut L,
     writer: &mut W,
 ) -> Result<(), Unwritten>
-    ensures whole { L.is_true ≡ true → (place_of : List ℕ → Option Place) (node : Node) (others : List Node)
+    ensures whole { L.is_true ≡ true
+        → (place_of : List ℕ → Option Place) (node : Node) (others : List Node)
         → IsAmong place_of (L.unmeasured levels.old row.tree row.level) at.old (node ∷ others)
-        → OnOk result (Appends (W.contents writer.old) (W.contents writer.new) (table place_of (digests_of (node ∷ [])))) }
-    ensures past { L.is_true ≡ true → (place_of : List ℕ → Option Place) (node : Node) (others : List Node)
+        → OnOk result
+        (Appends (W.contents writer.old) (W.contents writer.new)
+        (table place_of (digests_of (node ∷ [])))) }
+    ensures past { L.is_true ≡ true
+        → (place_of : List ℕ → Option Place) (node : Node) (others : List Node)
         → IsAmong place_of (L.unmeasured levels.old row.tree row.level) at.old (node ∷ others)
-        → OnOk result (IsAmong place_of (L.unmeasured levels.new row.tree row.level) at.new others) }
-    ensures begun { L.is_true ≡ true → (place_of : List ℕ → Option Place) (node : Node) (others : List Node)
+        → OnOk result
+        (IsAmong place_of (L.unmeasured levels.new row.tree row.level) at.new others) }
+    ensures begun { L.is_true ≡ true
+        → (place_of : List ℕ → Option Place) (node : Node) (others : List Node)
         → IsAmong place_of (L.unmeasured levels.old row.tree row.level) at.old (node ∷ others)
-        → AppendsFront (W.contents writer.old) (W.contents writer.new) (table place_of (digests_of (node ∷ []))) }
+        → AppendsFront (W.contents writer.old) (W.contents writer.new)
+        (table place_of (digests_of (node ∷ []))) }
     ensures nodes { OnOk result (L.nodes levels.new ≡ L.nodes levels.old) }
     ensures unread { OnOk result (L.unread levels.new ≡ L.unread levels.old) }
     ensures device { L.is_true ≡ true → L.may_refuse ≡ false

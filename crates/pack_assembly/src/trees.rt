@@ -46,7 +46,8 @@ impl BuiltTrees {
 
     /// The bytes of the manifest.
     pub(crate) fn manifest(&self, alloc: Global) -> Result<Vec<u8>, AllocError>
-        ensures { IfOk result (λ bytes. bytes.items ≡ manifest self.now.edition (top_among self.now.tops)) }
+        ensures { IfOk result
+            (λ bytes. bytes.items ≡ manifest self.now.edition (top_among self.now.tops)) }
     {
         let mut bytes = Vec::new(alloc);
         let manifest = Manifest {

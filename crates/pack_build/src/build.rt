@@ -58,7 +58,8 @@ pub fn build_pack<R: Read, S: RunStore, M: StoreMaker<S> + Drop, W: Write, B: Bu
     ensures refused { S.is_true ≡ true → IfSome (R.remaining input.old) (λ file.
         IfErr result (Explains file edition)) }
     // Nothing is written but where a device or the writer fails.
-    ensures untouched { IfErr result (λ fault. fault ≢ BuildFault.Device → fault ≢ BuildFault.NotWritten
+    ensures untouched { IfErr result
+        (λ fault. fault ≢ BuildFault.Device → fault ≢ BuildFault.NotWritten
         → pack.new ≡ pack.old) }
 {
     let mut maker = maker;
@@ -78,13 +79,16 @@ fn finish_sorted<S: RunStore, M: StoreMaker<S> + Drop, W: Write, B: BuildProgres
     memory: usize,
     pack: &mut W,
 ) -> Result<Digest, BuildFault>
-    ensures built { S.is_true ≡ true → (p : Publication) → shape_word sink.entry.1 ≡ shape_in_edition edition
+    ensures built { S.is_true ≡ true → (p : Publication)
+        → shape_word sink.entry.1 ≡ shape_in_edition edition
         → IsSorted p edition (taken_by sink.entry.2 sink.entry.3 sink.entry.4 sink.entry.5)
         → IfOk result (IsPackedAs p (W.contents pack.old) (W.contents pack.new)) }
-    ensures refused { S.is_true ≡ true → (p : Publication) → shape_word sink.entry.1 ≡ shape_in_edition edition
+    ensures refused { S.is_true ≡ true → (p : Publication)
+        → shape_word sink.entry.1 ≡ shape_in_edition edition
         → IsSorted p edition (taken_by sink.entry.2 sink.entry.3 sink.entry.4 sink.entry.5)
         → IfErr result (IsUnpacked p) }
-    ensures untouched { IfErr result (λ fault. fault ≢ BuildFault.Device → fault ≢ BuildFault.NotWritten
+    ensures untouched { IfErr result
+        (λ fault. fault ≢ BuildFault.Device → fault ≢ BuildFault.NotWritten
         → pack.new ≡ pack.old) }
 {
     let mut maker = maker;
@@ -116,12 +120,14 @@ pub fn write_trees<S: RunStore, W: Write>(
     requires in_hand { S.in_hand store ≡ [] }
     // If the trees are those of a publication, its pack is written, and its root is given.
     ensures built { S.is_true ≡ true → (p : Publication) → IsPublication p → p.edition ≡ edition
-        → AreTreesOf p trees → IfOk result (IsPackedAs p (W.contents pack.old) (W.contents pack.new)) }
+        → AreTreesOf p trees
+        → IfOk result (IsPackedAs p (W.contents pack.old) (W.contents pack.new)) }
     // Which fault it is then.
     ensures refused { S.is_true ≡ true → (p : Publication) → IsPublication p → p.edition ≡ edition
         → AreTreesOf p trees → IfErr result (IsUnpacked p) }
     // Nothing is written but where a device or the writer fails.
-    ensures untouched { IfErr result (λ fault. fault ≢ BuildFault.Device → fault ≢ BuildFault.NotWritten
+    ensures untouched { IfErr result
+        (λ fault. fault ≢ BuildFault.Device → fault ≢ BuildFault.NotWritten
         → pack.new ≡ pack.old) }
 {
     let digests = Sorter::new(alloc, store, memory);

@@ -33,7 +33,8 @@ impl Taken {
 
     /// This entry was given too.
     pub(crate) fn and(_before: &Taken, _given: &Given<'_>) -> Taken
-        ensures { result.pairs ≡ _before.now.pairs ++ (_given.now.key.now, _given.now.value.now) ∷ [] }
+        ensures { result.pairs
+            ≡ _before.now.pairs ++ (_given.now.key.now, _given.now.value.now) ∷ [] }
     {
         Taken {}
     }

@@ -57,9 +57,11 @@ pub fn compact_files<F: ReadAt, S: RunStore, M: StoreMaker<S> + Drop, W: Write>(
     // Under the root of a publication, whatever the files hold: what is written is its pack, unless one of its nodes and another
     // byte string have one digest.
     ensures safe { S.is_true ≡ true → (p : Publication) → IsRootOf p root.now.0
-        → OnOk result (IsPacked p (W.contents pack.old) (W.contents pack.new)) ⊎ HasSecondPreimage p }
+        → OnOk result (IsPacked p (W.contents pack.old) (W.contents pack.new))
+        ⊎ HasSecondPreimage p }
     // Of files that have its nodes it is written, unless memory or a device fails, or it has no pack, with the same exception.
-    ensures whole { S.is_true ≡ true → (p : Publication) (contents : List (List ℕ)) → IsRootOf p root.now.0
+    ensures whole { S.is_true ≡ true → (p : Publication) (contents : List (List ℕ))
+        → IsRootOf p root.now.0
         → F.reads files.old (joined contents) → AreFilesOf contents p manifest
         → IfErr result (IsOutside p) ⊎ HasSecondPreimage p }
     // Under the root of a publication each refusal has its reason, with the same exception,
@@ -68,7 +70,8 @@ pub fn compact_files<F: ReadAt, S: RunStore, M: StoreMaker<S> + Drop, W: Write>(
     // and where no manifest is told, another byte string has the root.
     ensures no_manifest { result ≡ Err NoManifest → IsNoManifest root.now.0 }
     // Nothing is written but where a device or the writer fails.
-    ensures untouched { IfErr result (λ fault. fault ≢ CompactFault.Device → fault ≢ CompactFault.NotWritten
+    ensures untouched { IfErr result
+        (λ fault. fault ≢ CompactFault.Device → fault ≢ CompactFault.NotWritten
         → pack.new ≡ pack.old) }
 {
     let record = read_node(alloc, files, root, manifest)?;
@@ -96,8 +99,10 @@ fn copied_trees<F: ReadAt, S: RunStore, M: StoreMaker<S> + Drop>(
     manifest: &Manifest,
     makers: [M; 4],
 ) -> Result<FinishedTrees<S>, CompactFault>
-    ensures copied { (p : Publication) (known : Option Holding) → IsPublication p → manifest.now.edition ≡ p.edition
-        → ((tree : TreeWord) → top_among manifest.now.tops tree ≡ top_in p tree) → HasTops p known «record».now
+    ensures copied { (p : Publication) (known : Option Holding) → IsPublication p
+        → manifest.now.edition ≡ p.edition
+        → ((tree : TreeWord) → top_among manifest.now.tops tree ≡ top_in p tree)
+        → HasTops p known «record».now
         → AreHeld (F.reads files.old) known
         → MatchResult result (AreTreesOf p) (IsFailure known) ⊎ HasSecondPreimage p }
     ensures told { IfErr result (λ fault. fault ≢ NoManifest) }
@@ -118,7 +123,8 @@ fn sequence_fits(edition: Edition)
 
 /// Whether these tops are the same.
 fn are_same(tops: &[Digest; 4], others: &[Digest; 4]) -> bool
-    ensures { ((tree : TreeWord) → top_among tops.now tree ≡ top_among others.now tree) → result ≡ true }
+    ensures { ((tree : TreeWord) → top_among tops.now tree ≡ top_among others.now tree)
+        → result ≡ true }
 {
     tops == others
 }

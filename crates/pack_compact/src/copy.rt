@@ -34,7 +34,8 @@ pub(crate) fn read_node<F: ReadAt>(
 ) -> Result<Record, CompactFault>
     ensures has_digest { IfOk result (λ whole. digest (node_in (bytes_in whole)) ≡ key.now.0) }
     ensures bytes { IfOk result (λ whole. AreBytes (node_in (bytes_in whole))) }
-    ensures ends { (known : Option Holding) → AreHeld (F.reads files.old) known → IsPlaceOf known key.now.0 place
+    ensures ends { (known : Option Holding) → AreHeld (F.reads files.old) known
+        → IsPlaceOf known key.now.0 place
         → MatchResult result (IsRecordOf known key.now.0) (IsFailure known) }
     ensures stays { (bytes : List ℕ) → F.reads files.old bytes → F.reads files.new bytes }
 {
@@ -56,9 +57,11 @@ pub(crate) fn copy_trees<F: ReadAt, S: RunStore, M: StoreMaker<S>>(
     builder: &mut TreesBuilder<S, M>,
 ) -> Result<(), CompactFault>
     ensures copied { (p : Publication) (known : Option Holding) → IsPublication p
-        → ((tree : TreeWord) → top_among manifest.now.tops tree ≡ top_in p tree) → HasTops p known «record».now
+        → ((tree : TreeWord) → top_among manifest.now.tops tree ≡ top_in p tree)
+        → HasTops p known «record».now
         → AreHeld (F.reads files.old) known → HasEntries builder.old (shape_in p) (λ tree. [])
-        → MatchResult result (λ _. HasEntries builder.new (shape_in p) p.entries) (IsFailure known) ⊎ HasSecondPreimage p }
+        → MatchResult result (λ _. HasEntries builder.new (shape_in p) p.entries) (IsFailure known)
+        ⊎ HasSecondPreimage p }
     ensures told { IfErr result (λ fault. fault ≢ NoManifest) }
 {
     copy_tree(alloc, files, record, manifest, Tree::Objects, 0, builder)?;
@@ -78,10 +81,13 @@ fn copy_tree<F: ReadAt, S: RunStore, M: StoreMaker<S>>(
     builder: &mut TreesBuilder<S, M>,
 ) -> Result<(), CompactFault>
     requires { number < 4 }
-    ensures copied { (p : Publication) (known : Option Holding) (others : TreeWord → List Binding) → IsPublication p
-        → number_of tree ≡ number + 1 → top_among manifest.now.tops tree ≡ top_in p tree → HasTops p known «record».now
+    ensures copied { (p : Publication) (known : Option Holding) (others : TreeWord → List Binding)
+        → IsPublication p
+        → number_of tree ≡ number + 1 → top_among manifest.now.tops tree ≡ top_in p tree
+        → HasTops p known «record».now
         → AreHeld (F.reads files.old) known → IsTakenTo p others tree builder.old (p.entries tree)
-        → MatchResult result (λ _. IsTakenTo p others tree builder.new []) (IsFailure known) ⊎ HasSecondPreimage p }
+        → MatchResult result (λ _. IsTakenTo p others tree builder.new []) (IsFailure known)
+        ⊎ HasSecondPreimage p }
     ensures told { IfErr result (λ fault. fault ≢ NoManifest) }
     ensures stays { (bytes : List ℕ) → F.reads files.old bytes → F.reads files.new bytes }
 {
@@ -110,7 +116,8 @@ fn copy_below<F: ReadAt, S: RunStore, M: StoreMaker<S>>(
         (level : ℕ) (node : Node) (entries left : List Binding)
         → HasTree (p.entries tree) → CanCopy p known key.now.0 place depth level node entries
         → AreHeld (F.reads files.old) known → IsTakenTo p others tree builder.old (entries ++ left)
-        → MatchResult result (λ _. IsTakenTo p others tree builder.new left) (IsFailure known) ⊎ HasSecondPreimage p }
+        → MatchResult result (λ _. IsTakenTo p others tree builder.new left) (IsFailure known)
+        ⊎ HasSecondPreimage p }
     ensures told { IfErr result (λ fault. fault ≢ NoManifest) }
     ensures stays { (bytes : List ℕ) → F.reads files.old bytes → F.reads files.new bytes }
 {
@@ -150,7 +157,8 @@ fn take_leaf<S: RunStore, M: StoreMaker<S>>(
     may_be_empty: bool,
     builder: &mut TreesBuilder<S, M>,
 ) -> Result<(), CompactFault>
-    ensures taken { (p : Publication) (known : Option Holding) (others : TreeWord → List Binding) (left : List Binding)
+    ensures taken { (p : Publication) (known : Option Holding) (others : TreeWord → List Binding)
+        (left : List Binding)
         → HasTree (p.entries tree) → (entries.entry ≢ []) ⊎ (may_be_empty ≡ true)
         → IsTakenTo p others tree builder.old (entries.entry ++ left)
         → MatchResult result (λ _. IsTakenTo p others tree builder.new left) (IsFailure known) }

@@ -43,7 +43,8 @@ impl<F: ReadAt + Drop> ReadAt for JoinedFiles<F> {
     ghost use Rattle.pack_files.specs.Joined.{AreRead, joined};
 
     /// Where each file tells its bytes: these, each at its offset.
-    ghost reads = { λ files bytes. (contents : List (List ℕ)) × AreRead F.reads (files_in files) contents
+    ghost reads = { λ files bytes. (contents : List (List ℕ))
+        × AreRead F.reads (files_in files) contents
         × (bytes ≡ joined contents) };
 
     /// The offset that one more file would have.

@@ -26,18 +26,24 @@ pub fn first_law()
 /// The law of further files.
 pub fn further_law()
     // Where files have nodes at their places, they and a further file have these and its own at the places beside one another.
-    ensures nodes { (contents : List (List ℕ)) (old : List ℕ → Option Place) (olds nodes : List Kept) (file root : List ℕ)
+    ensures nodes { (contents : List (List ℕ)) (old : List ℕ → Option Place)
+        (olds nodes : List Kept) (file root : List ℕ)
         → AreShort contents → HasNodesAt (joined contents) (2 ^ 64 - 1) old olds
         → IsFurther file (length contents) old root nodes
-        → HasNodesAt (joined (contents ++ file ∷ [])) (2 ^ 64 - 1) (place_beside (length contents) nodes old) (nodes ++ olds) }
+        → HasNodesAt (joined (contents ++ file ∷ [])) (2 ^ 64 - 1)
+        (place_beside (length contents) nodes old) (nodes ++ olds) }
     // The node with its root has a place there, from which a source can go on.
-    ensures root { (number : ℕ) (old : List ℕ → Option Place) (nodes : List Kept) (file root : List ℕ) → number < 65535
-        → IsFurther file number old root nodes → IsPlaced (place_beside number nodes old) (2 ^ 64 - 1) root }
+    ensures root { (number : ℕ) (old : List ℕ → Option Place) (nodes : List Kept)
+        (file root : List ℕ) → number < 65535
+        → IsFurther file number old root nodes
+        → IsPlaced (place_beside number nodes old) (2 ^ 64 - 1) root }
     // It is no longer than a file may be.
-    ensures short { (number : ℕ) (old : List ℕ → Option Place) (nodes : List Kept) (file root : List ℕ)
+    ensures short { (number : ℕ) (old : List ℕ → Option Place) (nodes : List Kept)
+        (file root : List ℕ)
         → IsFurther file number old root nodes → length file ≤ 2 ^ 48 }
     // What is one by some of the old places is one by all of them, if no node of it has one.
-    ensures over { (number : ℕ) (seen old : List ℕ → Option Place) (nodes : List Kept) (file root : List ℕ)
+    ensures over { (number : ℕ) (seen old : List ℕ → Option Place) (nodes : List Kept)
+        (file root : List ℕ)
         → ((key : List ℕ) (place : Place) → seen key ≡ Some place → old key ≡ Some place)
         → AllByRecursion (λ kept. old (digest kept.bytes) ≡ None) nodes
         → IsFurther file number seen root nodes → IsFurther file number old root nodes }
@@ -48,7 +54,8 @@ pub fn further_law()
 pub fn fewer_law()
     ensures { (bytes : List ℕ) (limit : ℕ) (old fewer : List ℕ → Option Place) (nodes : List Kept)
         → ((key : List ℕ) (place : Place) → fewer key ≡ Some place → old key ≡ Some place)
-        → ((kept : Kept) → Contains nodes kept → HasChildren kept.bytes kept.children → IsSome (fewer (digest kept.bytes))
+        → ((kept : Kept) → Contains nodes kept → HasChildren kept.bytes kept.children
+        → IsSome (fewer (digest kept.bytes))
         → AllByRecursion (λ child. IsSome (fewer child)) kept.children)
         → HasNodesAt bytes limit old nodes → HasNodesAt bytes limit fewer nodes }
 {}

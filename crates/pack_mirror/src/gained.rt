@@ -43,7 +43,8 @@ pub(crate) fn copy_brought<T, N: NodeSource + Drop>(
     ensures brought { IfSome result (λ gained. (node : List ℕ) → HaveCopy gained.nodes.items node
         → HasBrought (outside_of shelf.now) node) }
     ensures failed { IfErr given.now (λ fault. fault_of_answer fault ≡ Device → result ≡ None) }
-    ensures room { IfSome result (λ _. min (total_brought (outside_of shelf.now)) 0xffff_ffff_ffff_ffff ≤ room) }
+    ensures room { IfSome result
+        (λ _. min (total_brought (outside_of shelf.now)) 0xffff_ffff_ffff_ffff ≤ room) }
 {
     if let Err(fault) = given {
         if answer_refused(*fault) == MirrorFault::Device {

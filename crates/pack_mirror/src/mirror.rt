@@ -57,12 +57,14 @@ impl<F: ReadAt + Drop> PackMirror<F> {
     /// isn't read, and `Memory` where an allocation is refused.
     pub fn open(alloc: Global, file: F) -> Result<PackMirror<F>, PackFault>
         // Of a pack of a publication, it stands for that publication, unless a node of it has a second preimage.
-        ensures stands { (p : Publication) (nodes : List Kept) → F.reads file (pack (root_of p) nodes)
+        ensures stands { (p : Publication) (nodes : List Kept)
+            → F.reads file (pack (root_of p) nodes)
             → IsPack (pack (root_of p) nodes) (root_of p) nodes
             → IsPublication p → ¬ HaveSecondPreimage (IsNodeOf p)
             → IfOk result (λ mirror. StandsFor mirror p) }
         // The root is that of the file's header, and the file has as many bytes as the header states,
-        ensures header { (bytes : List ℕ) → F.reads file bytes → IfOk result (λ mirror. (header : Header)
+        ensures header { (bytes : List ℕ) → F.reads file bytes
+            → IfOk result (λ mirror. (header : Header)
             × (header_at (take 60 bytes) (length bytes) ≡ Ok header) × (mirror ≡ header.root)) }
         // or the first thing that is at fault is told, unless the device fails or memory is refused.
         ensures refused { (bytes : List ℕ) → F.reads file bytes → IfErr result (IsOpenFault bytes) }
@@ -78,12 +80,14 @@ impl<F: ReadAt + Drop> PackMirror<F> {
     /// As of [`PackMirror::open`].
     pub fn open_with_limit(alloc: Global, file: F, limit: u64) -> Result<PackMirror<F>, PackFault>
         // Of a pack of a publication, it stands for that publication, unless a node of it has a second preimage.
-        ensures stands { (p : Publication) (nodes : List Kept) → F.reads file (pack (root_of p) nodes)
+        ensures stands { (p : Publication) (nodes : List Kept)
+            → F.reads file (pack (root_of p) nodes)
             → IsPack (pack (root_of p) nodes) (root_of p) nodes
             → IsPublication p → ¬ HaveSecondPreimage (IsNodeOf p)
             → IfOk result (λ mirror. StandsFor mirror p) }
         // The root is that of the file's header, and the file has as many bytes as the header states,
-        ensures header { (bytes : List ℕ) → F.reads file bytes → IfOk result (λ mirror. (header : Header)
+        ensures header { (bytes : List ℕ) → F.reads file bytes
+            → IfOk result (λ mirror. (header : Header)
             × (header_at (take 60 bytes) (length bytes) ≡ Ok header) × (mirror ≡ header.root)) }
         // or the first thing that is at fault is told, unless the device fails or memory is refused.
         ensures refused { (bytes : List ℕ) → F.reads file bytes → IfErr result (IsOpenFault bytes) }

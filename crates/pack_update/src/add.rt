@@ -48,7 +48,8 @@ pub fn add_changes<F: ReadAt + Drop, W: Write>(
         ⊎ HasSecondPreimage p }
     // If the third reader reads files that have its nodes, they and the new file have those of the other one.
     ensures whole { (p : Publication) (contents : List (List ℕ)) → IsRootOf p root.now.0
-        → F.reads files.places (joined contents) → AreFilesOf contents p manifest → length contents ≡ number
+        → F.reads files.places (joined contents) → AreFilesOf contents p manifest
+        → length contents ≡ number
         → IfOk result (λ added. (q : Publication) × IsNextBy p changes.now q × IsAddedOf q added
         × HasFurther contents q added (W.contents writer.old) (W.contents writer.new))
         ⊎ HasSecondPreimage p }
@@ -60,7 +61,8 @@ pub fn add_changes<F: ReadAt + Drop, W: Write>(
     // Where the writer fails, no more than a beginning of a file is written, and nothing where another thing is at fault.
     ensures begun { result ≡ Err (Write WriteFault.NotWritten)
         → HasBegun number (W.contents writer.old) (W.contents writer.new) }
-    ensures untouched { IfErr result (λ fault. fault ≢ Write WriteFault.NotWritten → writer.new ≡ writer.old) }
+    ensures untouched { IfErr result
+        (λ fault. fault ≢ Write WriteFault.NotWritten → writer.new ≡ writer.old) }
 {
     let planned = plan_changes(alloc, files.plan, root, manifest, changes)?;
     let update = rebuild_trees(alloc, files.rebuild, root, manifest, &planned)?;

@@ -11,8 +11,10 @@ use pack_files::first_law;
 
 /// The law of the first file: a pack with just the nodes of a publication has them, and the manifest where its header says.
 pub fn files_law()
-    ensures { (p : Publication) (file : List ℕ) (nodes : List Kept) (manifest : Place) → IsPack file (root_of p) nodes
-        → ((bytes : List ℕ) → ((kept : Kept) × Contains nodes kept × (kept.bytes ≡ bytes)) ↔ IsNodeIn p bytes)
+    ensures { (p : Publication) (file : List ℕ) (nodes : List Kept) (manifest : Place)
+        → IsPack file (root_of p) nodes
+        → ((bytes : List ℕ)
+        → ((kept : Kept) × Contains nodes kept × (kept.bytes ≡ bytes)) ↔ IsNodeIn p bytes)
         → place_in nodes (root_of p) ≡ Some manifest
         → AreFilesOf (file ∷ []) p manifest }
 {

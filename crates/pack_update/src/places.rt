@@ -46,7 +46,8 @@ fn learn<F: ReadAt + Drop>(
     gone: &[Digest],
 ) -> Result<(), AddFault>
     ensures over { (place_of : List ℕ → Option NodePlace) (root : List ℕ) (old : List Kept)
-        → IsOver F.reads place_of source.old root old → IsOver F.reads place_of source.new root old }
+        → IsOver F.reads place_of source.old root old
+        → IsOver F.reads place_of source.new root old }
     ensures told { IfErr result IsOfSource }
 {
     let mut node = Vec::new(alloc);
@@ -67,7 +68,8 @@ fn read_known<F: ReadAt + Drop>(
     node: &mut Vec<u8>,
 ) -> Result<Vec<Digest>, AddFault>
     ensures over { (place_of : List ℕ → Option NodePlace) (root : List ℕ) (old : List Kept)
-        → IsOver F.reads place_of source.old root old → IsOver F.reads place_of source.new root old }
+        → IsOver F.reads place_of source.old root old
+        → IsOver F.reads place_of source.new root old }
     ensures told { IfErr result IsOfSource }
 {
     let mut unknown = Vec::new(alloc);

@@ -32,8 +32,10 @@ pub(crate) fn plan_changes<F: ReadAt + Drop>(
     changes: &[Change],
 ) -> Result<Planned, AddFault>
     // Unless one of these bytes, which it has read, and a different node have one digest:
-    ensures under { (seen : List (List ℕ)) × AreAllBytes seen × ((p : Publication) → IsRootOf p root.now.0 → IsAlone p seen
-        → IfOk result (IsPlannedFor p root.now.0 changes.now) × IfErr result (IsEarlyReason p changes.now)) }
+    ensures under { (seen : List (List ℕ)) × AreAllBytes seen
+        × ((p : Publication) → IsRootOf p root.now.0 → IsAlone p seen
+        → IfOk result (IsPlannedFor p root.now.0 changes.now)
+        × IfErr result (IsEarlyReason p changes.now)) }
     ensures unread { IfErr result (IsUnreadOr root.now.0) }
 {
     let arena = Bump::new(alloc);

@@ -28,7 +28,8 @@ pub(crate) fn rebuild_trees<F: ReadAt + Drop>(
     planned: &Planned,
 ) -> Result<Update, AddFault>
     // Unless one of these bytes, which it has read, and a different node have one digest, or two of its own nodes have:
-    ensures under { (seen : List (List ℕ)) × AreAllBytes seen × ((p : Publication) (all : List SetChange) → IsRootOf p root.now.0
+    ensures under { (seen : List (List ℕ)) × AreAllBytes seen
+        × ((p : Publication) (all : List SetChange) → IsRootOf p root.now.0
         → IsAlone p seen → IsClashFree (IsNodeIn p) → IsPlannedFor p root.now.0 all planned.now
         → IfOk result (IsUpdateBy p all) × IfErr result (IsEarlyReason p all)) }
     ensures unread { IfErr result (IsUnreadOr root.now.0) }

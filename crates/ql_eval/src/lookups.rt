@@ -21,8 +21,8 @@ ghost use Rattle.ql_eval.specs.internal.Entries.{HasNoNulIn, TargetFits};
 ghost use Rattle.ql_eval.specs.internal.Views.{question_of};
 ghost use Rattle.tree_walk.specs.Uses.{nodes_around};
 
+use crate::entry_names::names_in;
 use crate::fault::EvalFault;
-use crate::names::names_in;
 use crate::question::Question;
 use crate::walks::{count_in, entries_in};
 use osm_keys::{Manifest, OwnedRange, back_range, kind_range, tag_key_range, tag_range};

@@ -49,6 +49,7 @@ impl<'s, 'q, 'a, S: Shelf<'a>> Source for ShelfSource<'s, 'q, 'a, S> {
     ghost use Rattle.std.proofs.Common.{◌∙◌, ◌⊎◌, inl, inr, subst, sym};
     ghost use Rattle.osm_keys.specs.declared.manifest.Manifest.{Manifest};
     ghost use Rattle.tree_node.specs.Shelves.{Stays};
+    ghost use Rattle.tree_walk.specs.Uses.{nodes_around};
     ghost use Rattle.tree_walk.specs.WalksGiven.{HasGiven};
     ghost use Rattle.osm_keys.specs.Manifests.{top_among};
     ghost use Rattle.ql_eval.specs.Absences.{HaveIdOf, IsSound};
@@ -106,7 +107,7 @@ impl<'s, 'q, 'a, S: Shelf<'a>> Source for ShelfSource<'s, 'q, 'a, S> {
         × (AreRead (S.used o.shelf.now) o.manifest o.objects.now
         → AreRead (S.used n.shelf.now) n.manifest n.objects.now) };
 
-    ghost walked = { λ o n. HasGiven (top_among n.manifest.tops) (IsSound (MayBeAbsentNow (statements_of n.statements.now) n.objects.now)) (record { held = S.holds n.shelf.now; before = S.used o.shelf.now; after = S.used n.shelf.now })
+    ghost walked = { λ o n. HasGiven (top_among n.manifest.tops) (IsSound (MayBeAbsentNow (statements_of n.statements.now) n.objects.now)) (nodes_around S.holds S.used o.shelf.now n.shelf.now)
         o.tally.calls n.tally.calls o.tally.fetches n.tally.fetches };
 
     ghost itself = { λ o. (refl, refl, (λ x. ((λ _ has. has), (λ has. has))), (λ x has. has), (λ r object known. known), (λ absent. absent), (λ r given. given), (λ r is. is), (λ given. given), refl, (λ read. read)) };
@@ -166,7 +167,7 @@ impl<'s, 'q, 'a, S: Shelf<'a>> Source for ShelfSource<'s, 'q, 'a, S> {
           ];
         })
         (subst (λ (found : Manifest). HasGiven (top_among found.tops) (IsSound (MayBeAbsentNow (statements_of n.statements.now) n.objects.now))
-        (record { held = S.holds n.shelf.now; before = S.used o.shelf.now; after = S.used n.shelf.now }) o.tally.calls n.tally.calls o.tally.fetches n.tally.fetches) second.1 one)) two };
+        (nodes_around S.holds S.used o.shelf.now n.shelf.now) o.tally.calls n.tally.calls o.tally.fetches n.tally.fetches) second.1 one)) two };
 
     fn announce(&mut self, name: Ref) {
         announce_object(&mut *self.shelf, &self.manifest, name);

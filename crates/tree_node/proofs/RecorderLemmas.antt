@@ -26,7 +26,7 @@ use Rattle.tree_node.specs.internal.OrderLemmas.{order_above, order_same}
 use Rattle.tree_node.specs.internal.Pairs.{HaveDistinctDigests, lent_of, pair_of, part_key}
 use Rattle.tree_node.specs.Shelves.{SameNodes}
 use Rattle.tree_node.specs.declared.digest.Digest.{Digest}
-use Rattle.tree_node.specs.declared.given.Given.{Given}
+use Rattle.tree_node.specs.declared.recorded_node.RecordedNode.{RecordedNode}
 use Rattle.tree_node.specs.declared.part.Part.{Part}
 use Rattle.tree_node.proofs.BagLemmas.{element_at}
 use Rattle.tree_node.proofs.shared.MapLemmas.{differ, eq_is}
@@ -86,18 +86,18 @@ keys_are (p ∷ ps) =
     ap (λ (k : List ℕ). record { 0 = k } ∷ keys_of (map pair_of ps)) p.own ∙ ap (λ (ks : List Digest). part_key p ∷ ks) (keys_are ps)
 
 -- entries have the same keys without what was read
-keys_lent : (entries : List (Digest × Given)) → keys_of (map lent_of entries) ≡ keys_of entries
+keys_lent : (entries : List (Digest × RecordedNode)) → keys_of (map lent_of entries) ≡ keys_of entries
 keys_lent [] = refl
 keys_lent (e ∷ es) = ap (λ (ks : List Digest). e.0 ∷ ks) (keys_lent es)
 
-module _ {S : Type 0} (given : HashMap Digest Given S) (unique : IsUnique digest_eq given) where
+module _ {S : Type 0} (given : HashMap Digest RecordedNode S) (unique : IsUnique digest_eq given) where
   -- an entry at a place is what the map has under its key
   lent_there : (k : ℕ) (key : Digest) (node : Bor (List ℕ)) → k < length given.entries → get_or (map lent_of given.entries) k (key, node) ≡ (key, node) → lent_at given key ≡ Some node.now
   lent_there k key node lt at =
       let (entry, is) = element_at given.entries k lt in
       let there : get digest_eq given entry.0 ≡ Some entry.1 = lookup-from_Contains digest_equiv entry.0 entry.1 given.entries unique (k, lt, is) in
       let pair : lent_of entry ≡ (key, node) = sym (get_or-map lent_of given.entries k entry (key, node) lt ∙ ap lent_of is) ∙ at in
-      ap (lent_at given) (sym (ap (λ (q : Digest × Bor (List ℕ)). q.0) pair)) ∙ ap (option_map (λ (g : Given). g.bytes.now)) there
+      ap (lent_at given) (sym (ap (λ (q : Digest × Bor (List ℕ)). q.0) pair)) ∙ ap (option_map (λ (g : RecordedNode). g.bytes.now)) there
       ∙ ap (λ (q : Digest × Bor (List ℕ)). Some q.1.now) pair
 
   module _ (parts : List Part) (are : map pair_of parts ≡ map lent_of given.entries) where
@@ -119,7 +119,7 @@ module _ {S : Type 0} (given : HashMap Digest Given S) (unique : IsUnique digest
         ap (lent_at given) (sym key) ∙ there ∙ ap (λ (n : List ℕ). Some n) e
 
     -- what was given, a part holds
-    some_given : (x : List ℕ) (o : Option Given) → get digest_eq given (key_of x) ≡ o → option_map (λ (g : Given). g.bytes.now) o ≡ Some x → HaveNode parts x
+    some_given : (x : List ℕ) (o : Option RecordedNode) → get digest_eq given (key_of x) ≡ o → option_map (λ (g : RecordedNode). g.bytes.now) o ≡ Some x → HaveNode parts x
     some_given x None is e = absurd cc
     some_given x (Some g) is e =
         let (k, lt, at) = Contains-from_lookup eq_is (key_of x) g given.entries is in
@@ -141,10 +141,10 @@ between [] x back = (0, omega arith, refl)
 between (y ∷ front) x back = let (k, lt, at) = between front x back in (suc k, omega arith, at)
 
 -- a key and a node that are still to come stand in the map so
-pub to_come : {S : Type 0} (given : HashMap Digest Given S) (front : List (Digest × Bor (List ℕ))) (left back : List (Digest × Given)) (key : Digest) (node : Given)
+pub to_come : {S : Type 0} (given : HashMap Digest RecordedNode S) (front : List (Digest × Bor (List ℕ))) (left back : List (Digest × RecordedNode)) (key : Digest) (node : RecordedNode)
     → IsUnique digest_eq given → front ++ map lent_of left ≡ map lent_of given.entries → left ≡ (key, node) ∷ back → lent_at given key ≡ Some node.bytes.now
 to_come given front left back key node unique are is =
-    let (k, lt, at) = subst (λ (es : List (Digest × Bor (List ℕ))). Contains es (key, node.bytes)) (sym (ap (λ (l : List (Digest × Given)). front ++ map lent_of l) is) ∙ are) (between front (key, node.bytes) (map lent_of back)) in
+    let (k, lt, at) = subst (λ (es : List (Digest × Bor (List ℕ))). Contains es (key, node.bytes)) (sym (ap (λ (l : List (Digest × RecordedNode)). front ++ map lent_of l) is) ∙ are) (between front (key, node.bytes) (map lent_of back)) in
     lent_there given unique k key node.bytes (omega (arith, length_same lent_of given.entries)) at
 
 -- the last part as an entry stands before those still to come

@@ -7,7 +7,7 @@ use Rattle.std.specs.Global.{Vec}
 use Rattle.std.specs.HashMap.{HashMap, get}
 use Rattle.tree_node.specs.Digests.{digest}
 use Rattle.tree_node.specs.declared.digest.Digest.{Digest}
-use Rattle.tree_node.specs.declared.given.Given.{Given}
+use Rattle.tree_node.specs.declared.recorded_node.RecordedNode.{RecordedNode}
 
 -- whether two digests have the same bytes
 abbrev pub digest_eq : Digest → Digest → Bool
@@ -22,7 +22,7 @@ abbrev pub owned_at : {S : Type 0} → HashMap Digest (Vec ℕ) S → Digest →
 owned_at nodes key = option_map (λ v. v.items) (get digest_eq nodes key)
 
 -- the lent node under a digest
-abbrev pub lent_at : {S : Type 0} → HashMap Digest Given S → Digest → Option (List ℕ)
+abbrev pub lent_at : {S : Type 0} → HashMap Digest RecordedNode S → Digest → Option (List ℕ)
 lent_at nodes key = option_map (λ given. given.bytes.now) (get digest_eq nodes key)
 
 -- the node stands under its own digest, where `node_at` gives the nodes of a map

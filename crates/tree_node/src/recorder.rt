@@ -10,9 +10,9 @@ ghost use Rattle.tree_node.specs.Shelves.{GrownBy, IsEmptySet, SameNodes};
 
 use crate::digest::Digest;
 use crate::fetched::Fetched;
-use crate::given::Given;
 use crate::node::NodeRef;
 use crate::part::Part;
+use crate::recorded_node::RecordedNode;
 use crate::shelf::{FixedShelf, Shelf, ShelfFault};
 use crate::stock::Stock;
 use std::alloc::{AllocError, Global};
@@ -24,7 +24,7 @@ use std::collections::HashMap;
 pub struct Recorder<'a> {
     alloc: Global,
     stock: &'a Stock,
-    given: HashMap<Digest, Given<'a>>,
+    given: HashMap<Digest, RecordedNode<'a>>,
     ghost own: { (key : _)
         → ForSome (lent_at given key) (λ node. owned_at stock.now.nodes key ≡ Some node) },
 }
@@ -96,7 +96,7 @@ impl<'a> Recorder<'a> {
     }
 
     /// Remembers a node of the stock as used.
-    fn remember(&mut self, key: &Digest, given: Given<'a>) -> Result<(), ShelfFault>
+    fn remember(&mut self, key: &Digest, given: RecordedNode<'a>) -> Result<(), ShelfFault>
         requires { owned_at self.old.stock.now.nodes key.now ≡ Some given.bytes.now }
         ensures grown { OnOk result (GrownBy (RecorderUsed self.old) (RecorderUsed self.new) given.entry.bytes.now) }
         ensures unchanged { OnErr result (SameNodes (RecorderUsed self.old) (RecorderUsed self.new)) }
@@ -135,7 +135,7 @@ impl<'a> Shelf<'a> for Recorder<'a> {
         }
         let stock = self.stock;
         match stock.find(key) {
-            Some(node) => match self.remember(key, Given::unread(node)) {
+            Some(node) => match self.remember(key, RecordedNode::unread(node)) {
                 Ok(()) => Ok(node),
                 Err(fault) => Err(fault),
             },
@@ -154,7 +154,7 @@ impl<'a> Shelf<'a> for Recorder<'a> {
         match stock.find(key) {
             Some(bytes) => {
                 let read = NodeRef::read(bytes);
-                match self.remember(key, Given::with_read(bytes, &read)) {
+                match self.remember(key, RecordedNode::with_read(bytes, &read)) {
                     Ok(()) => Ok(Fetched { bytes, read }),
                     Err(fault) => Err(fault),
                 }

@@ -5,7 +5,7 @@ use Rattle.std.proofs.lemmas.List.{append-nil, map-append}
 use Rattle.tree_node.specs.Trees.{Shape, ends_by, last_key, pieces, pieces_from}
 use Rattle.tree_node.proofs.shared.PieceLemmas.{chosen, join, pieces_step}
 use Rattle.tree_node.proofs.shared.PieceLaws.{IsSized, goes_on, lasts}
-use Rattle.tree_stream.specs.internal.Cutting.{done_by, pending_after}
+use Rattle.tree_build.specs.internal.Cutting.{done_by, pending_after}
 
 module _ {X : Type 0} (ends : ℕ → X → Bool) where
   -- The pieces of a list in two parts: those that end within the first, and then those of the second from what is

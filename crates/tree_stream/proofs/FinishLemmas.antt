@@ -13,11 +13,13 @@ use Rattle.tree_node.proofs.shared.TreeLemmas.{level_half, tree_levels}
 use Rattle.tree_stream.specs.declared.finish.Top.{Top}
 use Rattle.tree_stream.specs.declared.level.OpenLevel.{OpenLevel}
 use Rattle.tree_stream.specs.declared.node_sum.NodeSum.{NodeSum}
-use Rattle.tree_stream.specs.internal.Cutting.{done_above, done_by, inner_done, links_left}
+use Rattle.tree_stream.specs.internal.Cutting.{done_above, inner_done, links_left}
+use Rattle.tree_build.specs.internal.Cutting.{done_by}
 use Rattle.tree_stream.specs.internal.Finishing.{IsFinished, IsTopOver, IsWhole}
 use Rattle.tree_stream.specs.internal.Holding.{HoldsAt, IsOnly}
 use Rattle.tree_stream.specs.internal.Opening.{AreFew, AreOpen, CanAdd, CanClose}
-use Rattle.tree_stream.specs.internal.Writing.{AreWithin, IsPut, States}
+use Rattle.tree_stream.specs.internal.Writing.{IsPut, States}
+use Rattle.tree_build.specs.internal.Building.{AreWithin}
 use Rattle.tree_stream.proofs.CutLemmas.{last_append, lasts_join, pieces_whole}
 use Rattle.tree_stream.proofs.OpenLemmas.{AreKept, ends_in, first_pending, first_there, first_written, left_few, left_half, left_joins, link_same, none_above, open_above, open_kept}
 use Rattle.tree_stream.proofs.WithinLemmas.{within_after, within_over}

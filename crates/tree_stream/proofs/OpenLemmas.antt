@@ -8,10 +8,12 @@ use Rattle.tree_node.proofs.shared.PieceLemmas.{join, two_at_least}
 use Rattle.tree_node.proofs.shared.TreeLemmas.{numbers_of}
 use Rattle.tree_stream.specs.declared.level.OpenLevel.{OpenLevel}
 use Rattle.tree_stream.specs.declared.node_sum.NodeSum.{NodeSum}
-use Rattle.tree_stream.specs.internal.Cutting.{done_above, done_by, inner_done, links_left, pending_after}
+use Rattle.tree_stream.specs.internal.Cutting.{done_above, inner_done, links_left}
+use Rattle.tree_build.specs.internal.Cutting.{done_by, pending_after}
 use Rattle.tree_stream.specs.internal.Holding.{HoldsAt}
 use Rattle.tree_stream.specs.internal.Opening.{AreFew, AreOpen, CanAdd}
-use Rattle.tree_stream.specs.internal.Writing.{AreWithin, IsPut, States}
+use Rattle.tree_stream.specs.internal.Writing.{IsPut, States}
+use Rattle.tree_build.specs.internal.Building.{AreWithin}
 use Rattle.tree_stream.proofs.CutLemmas.{done_half, done_more, last_append, pending_few, pending_joins, pending_more}
 use Rattle.tree_stream.proofs.WithinLemmas.{within_after, within_over}
 

@@ -15,11 +15,13 @@ use Rattle.tree_stream.specs.declared.level.OpenLevel.{OpenLevel}
 use Rattle.tree_stream.specs.declared.node_sum.NodeSum.{NodeSum}
 use Rattle.tree_stream.specs.declared.stream.TreeStream.{TreeStream}
 use Rattle.tree_stream.specs.Streams.{HasTaken, IsNextKey}
-use Rattle.tree_stream.specs.internal.Cutting.{done_above, done_by, entries_left, inner_done, leaves_done, links_left, pending_after}
+use Rattle.tree_stream.specs.internal.Cutting.{done_above, entries_left, inner_done, leaves_done, links_left}
+use Rattle.tree_build.specs.internal.Cutting.{done_by, pending_after}
 use Rattle.tree_stream.specs.internal.Finishing.{IsWhole}
 use Rattle.tree_stream.specs.internal.Holding.{HoldsAt}
 use Rattle.tree_stream.specs.internal.Opening.{AreFew, AreOpen, CanAdd}
-use Rattle.tree_stream.specs.internal.Writing.{AreWithin, IsPut, States}
+use Rattle.tree_stream.specs.internal.Writing.{IsPut, States}
+use Rattle.tree_build.specs.internal.Building.{AreWithin}
 use Rattle.tree_stream.proofs.CutLemmas.{done_half, done_more, last_after, last_append, lasts_join, pending_few, pending_joins, pending_more, pieces_whole}
 use Rattle.tree_stream.proofs.FinishLemmas.{last_piece, no_piece}
 use Rattle.tree_stream.proofs.OpenLemmas.{link_same, none_above}

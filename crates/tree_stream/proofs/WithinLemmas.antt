@@ -11,7 +11,7 @@ use Rattle.tree_node.specs.Nodes.{Binding, FitsEntry, Link, Node, Leaf, Inner, g
 use Rattle.tree_node.specs.Trees.{FitsTree, link_to}
 use Rattle.tree_node.proofs.shared.PieceLemmas.{join, join_all}
 use Rattle.tree_node.proofs.shared.TreeLemmas.{HasShort, IsShort, keys_short, last_short, numbers_leaves, numbers_of, numbers_over}
-use Rattle.tree_stream.specs.internal.Writing.{AreWithin}
+use Rattle.tree_build.specs.internal.Building.{AreWithin}
 
 pub all_parts : {X : Type 0} (P : X → Type 0) (xs ys : List X) → AllByRecursion P (xs ++ ys) → AllByRecursion P xs × AllByRecursion P ys
 all_parts P [] ys all = (tt, all)

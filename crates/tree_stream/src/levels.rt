@@ -5,7 +5,8 @@ ghost use Rattle.tree_node.specs.NodeRefs.{link_of, number_of};
 ghost use Rattle.tree_node.specs.Nodes.{Inner, Link};
 ghost use Rattle.tree_node.specs.declared.limits.TheConstants.{ITEM_LIMIT};
 ghost use Rattle.tree_stream.specs.internal.Holding.{HoldsAt};
-ghost use Rattle.tree_stream.specs.internal.Writing.{AreWithin, IsPut, States};
+ghost use Rattle.tree_stream.specs.internal.Writing.{IsPut, States};
+ghost use Rattle.tree_build.specs.internal.Building.{AreWithin};
 
 use crate::fault::WriterFault;
 use crate::level::OpenLevel;

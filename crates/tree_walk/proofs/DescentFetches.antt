@@ -4,6 +4,7 @@ use Rattle.std.specs.List.{AllByRecursion}
 use Rattle.tree_node.specs.Nodes.{level_of}
 use Rattle.tree_node.specs.Outcomes.{ShelfUse}
 use Rattle.tree_node.specs.Shelves.{Stays}
+use Rattle.tree_node.proofs.shared.OutcomeLaws.{uses}
 use Rattle.tree_walk.specs.Fetches.{AreDifferent, HasFetched, IsAmong}
 use Rattle.tree_walk.specs.internal.Pendings.{FetchesBelow, FetchesLevel, IsBetweenLevels, IsOfLevel}
 use Rattle.tree_walk.specs.declared.fault.WalkFault.{WalkFault}
@@ -52,12 +53,12 @@ lower low level high le bytes is = (is.0, is.1, omega (arith, is.2, le), is.3)
 
 module _ (high : ℕ) (old : List ℕ → Type 0) (from : ℕ) where
   -- at the start
-  unfoldable pub down_start : (held : List ℕ → Type 0) → FetchingDown high high (record { held = held; before = old; after = old }) from from
+  unfoldable pub down_start : (held : List ℕ → Type 0) → FetchingDown high high (uses held old old) from from
   down_start held = record { done = []; fetched = fetched_none held old old from (λ bytes. ((λ is. is), (λ is. is))); differ = tt; so_far = tt }
 
   -- one more level
-  unfoldable pub down_step : {fixed : Bool} {A : Type 0} (value : A) (level : ℕ) (held after mid new : List ℕ → Type 0) (via to : ℕ) → level < high → FetchingDown (suc level) high (record { held = held; before = old; after = mid }) from via → Stays fixed held after
-      → FetchesLevel level (Ok value) (record { held = after; before = mid; after = new }) via to → FetchingDown level high (record { held = after; before = old; after = new }) from to
+  unfoldable pub down_step : {fixed : Bool} {A : Type 0} (value : A) (level : ℕ) (held after mid new : List ℕ → Type 0) (via to : ℕ) → level < high → FetchingDown (suc level) high (uses held old mid) from via → Stays fixed held after
+      → FetchesLevel level (Ok value) (uses after mid new) via to → FetchingDown level high (uses after old new) from to
   down_step value level held after mid new via to lt so stays last = record {
     done = so.done ++ last.0;
     fetched = fetched_then held after old mid new from via to so.done last.0 stays so.fetched last.1;
@@ -67,16 +68,16 @@ module _ (high : ℕ) (old : List ℕ → Type 0) (from : ℕ) where
   }
 
   -- all levels
-  pub down_end : {A : Type 0} (value : A) (low : ℕ) (held new : List ℕ → Type 0) (to : ℕ) → FetchingDown low high (record { held = held; before = old; after = new }) from to → FetchesBelow high (Ok value) (record { held = held; before = old; after = new }) from to
+  pub down_end : {A : Type 0} (value : A) (low : ℕ) (held new : List ℕ → Type 0) (to : ℕ) → FetchingDown low high (uses held old new) from to → FetchesBelow high (Ok value) (uses held old new) from to
   down_end value low held new to so = (so.done, so.fetched, so.differ, all_weaker (IsBetweenLevels low high) (IsBetweenLevels 0 high) so.done (lower 0 low high (omega arith)) so.so_far)
 
   -- refused in a level
-  pub down_stop : {fixed : Bool} (A B : Type 0) (fault : WalkFault) (level : ℕ) (held after mid new : List ℕ → Type 0) (via to : ℕ) → level < high → FetchingDown (suc level) high (record { held = held; before = old; after = mid }) from via → Stays fixed held after
-      → FetchesLevel {A = A} level (Err fault) (record { held = after; before = mid; after = new }) via to → FetchesBelow {A = B} high (Err fault) (record { held = after; before = old; after = new }) from to
+  pub down_stop : {fixed : Bool} (A B : Type 0) (fault : WalkFault) (level : ℕ) (held after mid new : List ℕ → Type 0) (via to : ℕ) → level < high → FetchingDown (suc level) high (uses held old mid) from via → Stays fixed held after
+      → FetchesLevel {A = A} level (Err fault) (uses after mid new) via to → FetchesBelow {A = B} high (Err fault) (uses after old new) from to
   down_stop A B fault level held after mid new via to lt so stays last = (
     so.done ++ last.0,
     last.1,
-    subst (λ (ns : List (List ℕ)). HasFetched (record { held = after; before = old; after = new }) from to ns) (sym (append_assoc so.done last.0 last.1)) (fetched_then held after old mid new from via to so.done (last.0 ++ last.1) stays so.fetched last.2),
+    subst (λ (ns : List (List ℕ)). HasFetched (uses after old new) from to ns) (sym (append_assoc so.done last.0 last.1)) (fetched_then held after old mid new from via to so.done (last.0 ++ last.1) stays so.fetched last.2),
     differ_append so.done last.0 so.differ last.3 (levels_apart (suc level) high level so.done last.0 (omega arith) so.so_far (all_weaker (IsOfLevel level) (IsBetweenLevels 0 (suc level)) last.0 (between_of level) last.4)),
     all_append (IsBetweenLevels 0 high) so.done last.0 (all_weaker (IsBetweenLevels (suc level) high) (IsBetweenLevels 0 high) so.done (lower 0 (suc level) high (omega arith)) so.so_far)
         (all_weaker (IsOfLevel level) (IsBetweenLevels 0 high) last.0 (λ bytes is. lower 0 level high (omega arith) bytes (between_from level high lt bytes is)) last.4),
@@ -84,7 +85,7 @@ module _ (high : ℕ) (old : List ℕ → Type 0) (from : ℕ) where
   )
 
   -- the leaves, whichever way they ended
-  pub down_last : {fixed : Bool} {A : Type 0} (result : Result A WalkFault) (held after mid new : List ℕ → Type 0) (via to : ℕ) → 0 < high → FetchingDown 1 high (record { held = held; before = old; after = mid }) from via → Stays fixed held after
-      → FetchesLevel 0 result (record { held = after; before = mid; after = new }) via to → FetchesBelow high result (record { held = after; before = old; after = new }) from to
+  pub down_last : {fixed : Bool} {A : Type 0} (result : Result A WalkFault) (held after mid new : List ℕ → Type 0) (via to : ℕ) → 0 < high → FetchingDown 1 high (uses held old mid) from via → Stays fixed held after
+      → FetchesLevel 0 result (uses after mid new) via to → FetchesBelow high result (uses after old new) from to
   down_last (Ok value) held after mid new via to lt so stays last = down_end value 0 after new to (down_step value 0 held after mid new via to lt so stays last)
   down_last {A} (Err fault) held after mid new via to lt so stays last = down_stop A A fault 0 held after mid new via to lt so stays last

@@ -18,7 +18,7 @@ use Rattle.tree_walk.specs.declared.fault.WalkFault.{WalkFault}
 use Rattle.tree_walk.proofs.AccountLemmas.{gains_none, gains_then}
 use Rattle.tree_walk.proofs.BelowLemmas.{account_then}
 use Rattle.tree_walk.proofs.OpenLevels.{last_below, level_account, open_below, open_met, open_stated}
-use Rattle.tree_node.proofs.shared.OutcomeLaws.{clash_more, refused_more}
+use Rattle.tree_node.proofs.shared.OutcomeLaws.{clash_more, refused_more, uses}
 
 module _ {G : Type 0} (gathers : G → List (Option (List ℕ) × Link) → List Binding → Type 0) (closing : Bool) (tree : ℕ) (range : Range) (high : ℕ) (spots : List (Option (List ℕ) × Link)) (first : G) where
   -- what was gathered so far, with what is found below the nodes of a level, accounts for what is below those where the
@@ -91,7 +91,7 @@ module _ {G : Type 0} (gathers : G → List (Option (List ℕ) × Link) → List
       → HonestDown (suc low) pending now old mid → ((bytes : List ℕ) → mid bytes → new bytes)
       → ((nodes : List (Option (List ℕ) × Node)) → AreStated tree (suc low) pending nodes
       → Outcome {A = V} cause_of (λ value. AreThose (IsOpenChild closing range) (children_of_all nodes) (view value)
-      × ((closed : List (Option (List ℕ) × Link)) × AreThose (IsClosedChild closing range) (children_of_all nodes) closed × Gains gathers now next closed [])) (IsOneOf nodes) (record { held = held; before = mid; after = new }) (Ok value))
+      × ((closed : List (Option (List ℕ) × Link)) × AreThose (IsClosedChild closing range) (children_of_all nodes) closed × Gains gathers now next closed [])) (IsOneOf nodes) (uses held mid new) (Ok value))
       → HonestDown low (view value) next old new
   honest_down_step view cause_of value low pending now next held old mid new le so grows answer shape entries reached =
       elim (so shape entries reached) [
@@ -150,10 +150,10 @@ module _ {G : Type 0} (gathers : G → List (Option (List ℕ) × Link) → List
   pub honest_down_end : {V : Type 0} (cause_of : WalkFault → Cause) (result : Result V WalkFault) (pending : List (Option (List ℕ) × Link)) (now last : G) (held old mid new : List ℕ → Type 0)
       → HonestDown 0 pending now old mid → ((bytes : List ℕ) → mid bytes → new bytes)
       → ((nodes : List (Option (List ℕ) × Node)) → AreStated tree 0 pending nodes
-      → Outcome {A = V} cause_of (λ _. (found : List Binding) × AreThose (IsEntryIn range) (entries_of_all nodes) found × Gains gathers now last [] found) (IsOneOf nodes) (record { held = held; before = mid; after = new }) result)
+      → Outcome {A = V} cause_of (λ _. (found : List Binding) × AreThose (IsEntryIn range) (entries_of_all nodes) found × Gains gathers now last [] found) (IsOneOf nodes) (uses held mid new) result)
       → (shape : Shape) (entries : List Binding) → IsReached closing shape tree entries range high spots
       → Outcome {A = V} cause_of (λ _. (closed : List (Option (List ℕ) × Link)) × (found all : List Binding) × Gains gathers first last closed found × Account closing closed found all
-      × AreBelowLevel closing range (levels shape tree entries) high all) (IsOpenedIn closing range (levels shape tree entries) 0 high) (record { held = held; before = old; after = new }) result
+      × AreBelowLevel closing range (levels shape tree entries) high all) (IsOpenedIn closing range (levels shape tree entries) 0 high) (uses held old new) result
   honest_down_end cause_of (Err fault) pending now last held old mid new so grows answer shape entries reached =
       record { ends = honest_down_stop (cause_of fault) 0 pending now held old mid new (omega arith) so grows (λ nodes stated. (answer nodes stated).ends) shape entries reached }
   honest_down_end cause_of (Ok value) pending now last held old mid new so grows answer shape entries reached =

@@ -2,6 +2,7 @@
 use Rattle.std.proofs.Common.{Bool, ◌≡◌, ℕ, zero, suc, ◌+◌, ◌-◌, ◌^◌, min, List, [], ◌∷◌, ◌++◌, length, ◌⊎◌, inl, inr, refl, sym, ap, ◌∙◌, arith, length-append}
 use Rattle.std.specs.List.{AllByRecursion}
 use Rattle.tree_node.specs.Shelves.{GrownBy, SameNodes, Stays}
+use Rattle.tree_node.proofs.shared.OutcomeLaws.{uses}
 use Rattle.tree_walk.specs.Fetches.{HasFetched, IsAmong, counted_up}
 
 -- ---- counts
@@ -45,7 +46,7 @@ pub stays_then : (fixed : Bool) (a b c : List ℕ → Type 0) → Stays fixed a 
 stays_then fixed a b c first last bytes = ((λ e has. (first bytes).0 e ((last bytes).0 e has)), (λ has. (last bytes).1 ((first bytes).1 has)))
 
 -- nothing was fetched
-pub fetched_none : (held old new : List ℕ → Type 0) (count : ℕ) → SameNodes old new → HasFetched (record { held = held; before = old; after = new }) count count []
+pub fetched_none : (held old new : List ℕ → Type 0) (count : ℕ) → SameNodes old new → HasFetched (uses held old new) count count []
 fetched_none held old new count same = record {
   gained = λ bytes. ((λ has. inl ((same bytes).0 has)), (λ is. elim is [ inl was ↦ (same bytes).1 was | inr none ↦ absurd none ]));
   all_held = tt;
@@ -53,7 +54,7 @@ fetched_none held old new count same = record {
 }
 
 -- one node was
-pub fetched_one : (held old new : List ℕ → Type 0) (count : ℕ) (node : List ℕ) → held node → GrownBy old new node → HasFetched (record { held = held; before = old; after = new }) count (counted_up count 1) (node ∷ [])
+pub fetched_one : (held old new : List ℕ → Type 0) (count : ℕ) (node : List ℕ) → held node → GrownBy old new node → HasFetched (uses held old new) count (counted_up count 1) (node ∷ [])
 fetched_one held old new count node is grown = record {
   gained = λ bytes. (
     (λ has. elim ((grown bytes).0 has) [ inl was ↦ inl was | inr here ↦ inr (inl here) ]),
@@ -65,7 +66,7 @@ fetched_one held old new count node is grown = record {
 
 -- some were, and then others
 pub fetched_then : {fixed : Bool} (held after old mid new : List ℕ → Type 0) (from via to : ℕ) (xs ys : List (List ℕ)) → Stays fixed held after
-    → HasFetched (record { held = held; before = old; after = mid }) from via xs → HasFetched (record { held = after; before = mid; after = new }) via to ys → HasFetched (record { held = after; before = old; after = new }) from to (xs ++ ys)
+    → HasFetched (uses held old mid) from via xs → HasFetched (uses after mid new) via to ys → HasFetched (uses after old new) from to (xs ++ ys)
 fetched_then held after old mid new from via to xs ys stays first last = record {
   gained = λ bytes. (
     (λ has. elim ((last.gained bytes).0 has) [

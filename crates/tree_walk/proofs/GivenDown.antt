@@ -5,6 +5,7 @@ use Rattle.std.specs.Prelude.{OnOk}
 use Rattle.std.proofs.lemmas.List.{append-nil}
 use Rattle.tree_node.specs.Nodes.{Binding, Inner, Leaf, Link}
 use Rattle.tree_node.specs.Shelves.{Stays}
+use Rattle.tree_node.proofs.shared.OutcomeLaws.{uses}
 use Rattle.tree_walk.specs.Choices.{AreThose}
 use Rattle.tree_walk.specs.Fetches.{IsAmong, IsNodeText}
 use Rattle.tree_walk.specs.Given.{FromInner, FromLeaves, GivesFrom, IsEntered, wanted_of}
@@ -33,7 +34,7 @@ module _ {G : Type 0} (gathers : G → List (Option (List ℕ) × Link) → List
     -- A walk from these wanted children of a level has come down to a lower one, with these pending children: what they
     -- give, after what stayed closed so far, the walk gives.
     pub record GatheringDown (level : ℕ) (held now : List ℕ → Type 0) (to : ℕ) (pending : List (Option (List ℕ) × Link)) (gathered : G) : Type 0 where
-      pub so_far : FetchingDown (suc level) (suc high) (record { held = held; before = old; after = now }) from to
+      pub so_far : FetchingDown (suc level) (suc high) (uses held old now) from to
       pub closed : List (Option (List ℕ) × Link)
       pub gains : Gains gathers first gathered closed []
       pub gives : (more : List (List ℕ)) (below : List (Option (List ℕ) × Link)) (found : List Binding) → GivesFrom Closed (IsAmong (so_far.done ++ more)) tree range (map (wanted_of level) pending) below found
@@ -46,7 +47,7 @@ module _ {G : Type 0} (gathers : G → List (Option (List ℕ) × Link) → List
 
     -- one more level
     pub gathering_step : {fixed : Bool} (level : ℕ) (held after mid new : List ℕ → Type 0) (via to : ℕ) (pending entered : List (Option (List ℕ) × Link)) (before later : G) → suc level < suc high → GatheringDown (suc level) held mid via pending before → Stays fixed held after
-        → ReadsLevel gathers Closed (record { held = after; before = mid; after = new }) via to tree (suc level) range pending entered before later → GatheringDown level after new to entered later
+        → ReadsLevel gathers Closed (uses after mid new) via to tree (suc level) range pending entered before later → GatheringDown level after new to entered later
     unfolding down_step
     gathering_step level held after mid new via to pending entered before later lt so stays reads =
         let value : Unit {0} = tt in
@@ -69,8 +70,8 @@ module _ {G : Type 0} (gathers : G → List (Option (List ℕ) × Link) → List
 
     -- and the leaves
     pub gathering_end : {fixed : Bool} (held after mid new : List ℕ → Type 0) (via to : ℕ) (pending : List (Option (List ℕ) × Link)) (before later : G) → GatheringDown 0 held mid via pending before → Stays fixed held after
-        → GathersFrom gathers Closed (IsOfLevel 0) (record { held = after; before = mid; after = new }) via to tree range (map (wanted_of 0) pending) before later
-        → GathersFrom gathers Closed (IsBetweenLevels 0 (suc high)) (record { held = after; before = old; after = new }) from to tree range (map (wanted_of high) spots) first later
+        → GathersFrom gathers Closed (IsOfLevel 0) (uses after mid new) via to tree range (map (wanted_of 0) pending) before later
+        → GathersFrom gathers Closed (IsBetweenLevels 0 (suc high)) (uses after old new) from to tree range (map (wanted_of high) spots) first later
     unfolding down_step
     gathering_end held after mid new via to pending before later so stays leaves =
         let value : Unit {0} = tt in
@@ -90,9 +91,9 @@ module _ {G : Type 0} (gathers : G → List (Option (List ℕ) × Link) → List
   -- ---- the top
 
   -- the top is a leaf
-  pub gathers_top_leaf : (top : List ℕ) (in_tree : ℕ) (entries found : List Binding) (held old new : List ℕ → Type 0) (from to : ℕ) (before later : G) → FetchedNode (Leaf in_tree entries) (record { held = held; before = old; after = new }) from to
+  pub gathers_top_leaf : (top : List ℕ) (in_tree : ℕ) (entries found : List Binding) (held old new : List ℕ → Type 0) (from to : ℕ) (before later : G) → FetchedNode (Leaf in_tree entries) (uses held old new) from to
       → IsAccepted new tree (Top top) (Leaf in_tree entries) → AreThose (IsEntryIn range) entries found → Gains gathers before later [] found
-      → GathersFrom gathers Closed IsNodeText (record { held = held; before = old; after = new }) from to tree range (Top top ∷ []) before later
+      → GathersFrom gathers Closed IsNodeText (uses held old new) from to tree range (Top top ∷ []) before later
   gathers_top_leaf top in_tree entries found held old new from to before later is accepted those gains =
       let node = Leaf in_tree entries in
       record {
@@ -109,10 +110,10 @@ module _ {G : Type 0} (gathers : G → List (Option (List ℕ) × Link) → List
 
   -- the top is an inner node, with what is below it
   pub gathers_top_inner : {fixed : Bool} (top : List ℕ) (in_tree level : ℕ) (links : List Link) (entered closed : List (Option (List ℕ) × Link)) (held after old mid new : List ℕ → Type 0) (from via to : ℕ) (before now later : G)
-      → FetchedNode (Inner in_tree (suc level) links) (record { held = held; before = old; after = mid }) from via → IsAccepted mid tree (Top top) (Inner in_tree (suc level) links)
+      → FetchedNode (Inner in_tree (suc level) links) (uses held old mid) from via → IsAccepted mid tree (Top top) (Inner in_tree (suc level) links)
       → AreThose (IsEntered Closed range) (children_placed None links) entered → AreThose Closed (children_placed None links) closed → Gains gathers before now closed [] → Stays fixed held after
-      → GathersFrom gathers Closed (IsBetweenLevels 0 (suc level)) (record { held = after; before = mid; after = new }) via to tree range (map (wanted_of level) entered) now later
-      → GathersFrom gathers Closed IsNodeText (record { held = after; before = old; after = new }) from to tree range (Top top ∷ []) before later
+      → GathersFrom gathers Closed (IsBetweenLevels 0 (suc level)) (uses after mid new) via to tree range (map (wanted_of level) entered) now later
+      → GathersFrom gathers Closed IsNodeText (uses after old new) from to tree range (Top top ∷ []) before later
   gathers_top_inner top in_tree level links entered closed held after old mid new from via to before now later is accepted enters closes gains stays down =
       let node = Inner in_tree (suc level) links in
       record {

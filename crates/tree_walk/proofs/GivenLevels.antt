@@ -6,6 +6,7 @@ use Rattle.std.proofs.lemmas.List.{append-nil}
 use Rattle.tree_node.specs.Nodes.{Link, Node, Spells, level_of, spelling}
 use Rattle.tree_node.specs.Shelves.{Stays}
 use Rattle.tree_node.specs.Trees.{greatest_of}
+use Rattle.tree_node.proofs.shared.OutcomeLaws.{uses}
 use Rattle.tree_walk.specs.Choices.{AreThose}
 use Rattle.tree_walk.specs.Fetches.{IsAmong}
 use Rattle.tree_walk.specs.Given.{AreAccepted, wanted_of}
@@ -57,7 +58,7 @@ module _ (tree level : ℕ) (all : List (Option (List ℕ) × Link)) where
   module _ (old : List ℕ → Type 0) (from : ℕ) where
     -- the nodes so far were fetched and accepted: these
     pub record ReadingLevel (low : Option (List ℕ)) (held now : List ℕ → Type 0) (to : ℕ) (rest : List (Option (List ℕ) × Link)) (read : List (Option (List ℕ) × Node)) : Type 0 where
-      pub so_far : FetchingLevel level low (record { held = held; before = old; after = now }) from to rest
+      pub so_far : FetchingLevel level low (uses held old now) from to rest
       pub are : AreRead rest so_far.done read
 
     -- at the start
@@ -67,7 +68,7 @@ module _ (tree level : ℕ) (all : List (Option (List ℕ) × Link)) where
 
     -- one more
     pub reading_step : {fixed : Bool} (low : Option (List ℕ)) (held after mid new : List ℕ → Type 0) (via to : ℕ) (spot : Option (List ℕ) × Link) (rest : List (Option (List ℕ) × Link)) (read : List (Option (List ℕ) × Node)) (node : Node)
-        → ReadingLevel low held mid via (spot ∷ rest) read → Stays fixed held after → FetchedNode node (record { held = after; before = mid; after = new }) via to
+        → ReadingLevel low held mid via (spot ∷ rest) read → Stays fixed held after → FetchedNode node (uses after mid new) via to
         → level_of node ≡ level → greatest_of node ≡ spot.1.greatest → IsAccepted new tree (wanted_of level spot) node
         → ReadingLevel (Some spot.1.greatest) after new to rest (read ++ (spot.0, node) ∷ [])
     unfolding level_step

@@ -7,6 +7,7 @@ use Rattle.tree_node.specs.internal.OrderLemmas.{not_itself}
 use Rattle.tree_node.specs.Outcomes.{ShelfUse}
 use Rattle.tree_node.specs.Shelves.{Stays}
 use Rattle.tree_node.specs.Trees.{greatest_of}
+use Rattle.tree_node.proofs.shared.OutcomeLaws.{uses}
 use Rattle.tree_node.proofs.shared.FieldLemmas.{ok_is}
 use Rattle.tree_node.proofs.shared.NodeLaws.{node_again}
 use Rattle.tree_walk.specs.Fetches.{AreDifferent, HasFetched, IsAmong}
@@ -78,7 +79,7 @@ higher level (Some l) (Some k) greatest no_higher above bytes is =
 
 module _ (level : ℕ) (old : List ℕ → Type 0) (from : ℕ) where
   -- at the start
-  unfoldable pub level_start : (held : List ℕ → Type 0) (spots : List (Option (List ℕ) × Link)) → AreInOrder None spots → FetchingLevel level None (record { held = held; before = old; after = old }) from from spots
+  unfoldable pub level_start : (held : List ℕ → Type 0) (spots : List (Option (List ℕ) × Link)) → AreInOrder None spots → FetchingLevel level None (uses held old old) from from spots
   level_start held spots order = record {
     done = [];
     fetched = fetched_none held old old from (λ bytes. ((λ is. is), (λ is. is)));
@@ -89,8 +90,8 @@ module _ (level : ℕ) (old : List ℕ → Type 0) (from : ℕ) where
 
   -- one more
   unfoldable pub level_step : {fixed : Bool} (low : Option (List ℕ)) (held after mid new : List ℕ → Type 0) (via to : ℕ) (spot : Option (List ℕ) × Link) (rest : List (Option (List ℕ) × Link)) (node : Node)
-      → FetchingLevel level low (record { held = held; before = old; after = mid }) from via (spot ∷ rest) → Stays fixed held after → FetchedNode node (record { held = after; before = mid; after = new }) via to
-      → level_of node ≡ level → greatest_of node ≡ spot.1.greatest → FetchingLevel level (Some spot.1.greatest) (record { held = after; before = old; after = new }) from to rest
+      → FetchingLevel level low (uses held old mid) from via (spot ∷ rest) → Stays fixed held after → FetchedNode node (uses after mid new) via to
+      → level_of node ≡ level → greatest_of node ≡ spot.1.greatest → FetchingLevel level (Some spot.1.greatest) (uses after old new) from to rest
   level_step low held after mid new via to spot rest node so stays is at_level greatest =
       let above : IsAboveLeft spot.0 (greatest_of node) = subst (λ (g : List ℕ). IsAboveLeft spot.0 g) (sym greatest) so.order.1 in
       record {
@@ -108,18 +109,18 @@ module _ (level : ℕ) (old : List ℕ → Type 0) (from : ℕ) where
 
   -- at the end
   pub level_end : {A : Type 0} (value : A) (low : Option (List ℕ)) (held new : List ℕ → Type 0) (to : ℕ) (rest : List (Option (List ℕ) × Link))
-      → FetchingLevel level low (record { held = held; before = old; after = new }) from to rest → FetchesLevel level (Ok value) (record { held = held; before = old; after = new }) from to
+      → FetchingLevel level low (uses held old new) from to rest → FetchesLevel level (Ok value) (uses held old new) from to
   level_end value low held new to rest so =
       (so.done, so.fetched, so.differ, all_weaker (IsFetchedUpTo level low) (IsOfLevel level) so.done (of_level low) so.so_far)
 
   -- refused, after the last of them
   pub level_refused : {A : Type 0} (result : Result A WalkFault) (fault : WalkFault) (low : Option (List ℕ)) (held new : List ℕ → Type 0) (to : ℕ) (rest : List (Option (List ℕ) × Link))
-      → result ≡ Err fault → FetchingLevel level low (record { held = held; before = old; after = new }) from to rest → FetchesLevel level result (record { held = held; before = old; after = new }) from to
+      → result ≡ Err fault → FetchingLevel level low (uses held old new) from to rest → FetchesLevel level result (uses held old new) from to
   level_refused {A} result fault low held new to rest is so =
-      subst (λ (r : Result A WalkFault). FetchesLevel level r (record { held = held; before = old; after = new }) from to) (sym is) (
+      subst (λ (r : Result A WalkFault). FetchesLevel level r (uses held old new) from to) (sym is) (
         so.done,
         [],
-        subst (λ (ns : List (List ℕ)). HasFetched (record { held = held; before = old; after = new }) from to ns) (sym (append-nil so.done)) so.fetched,
+        subst (λ (ns : List (List ℕ)). HasFetched (uses held old new) from to ns) (sym (append-nil so.done)) so.fetched,
         so.differ,
         all_weaker (IsFetchedUpTo level low) (IsOfLevel level) so.done (of_level low) so.so_far,
         omega arith,
@@ -127,10 +128,10 @@ module _ (level : ℕ) (old : List ℕ → Type 0) (from : ℕ) where
 
   -- refused, perhaps at one more
   pub level_stopped : {fixed : Bool} {A : Type 0} (result : Result A WalkFault) (fault : WalkFault) (low : Option (List ℕ)) (held after mid new : List ℕ → Type 0) (via to : ℕ) (rest : List (Option (List ℕ) × Link))
-      → result ≡ Err fault → FetchingLevel level low (record { held = held; before = old; after = mid }) from via rest → Stays fixed held after → FetchedFew (record { held = after; before = mid; after = new }) via to
-      → FetchesLevel level result (record { held = after; before = old; after = new }) from to
+      → result ≡ Err fault → FetchingLevel level low (uses held old mid) from via rest → Stays fixed held after → FetchedFew (uses after mid new) via to
+      → FetchesLevel level result (uses after old new) from to
   level_stopped {A} result fault low held after mid new via to rest is so stays few =
-      subst (λ (r : Result A WalkFault). FetchesLevel level r (record { held = after; before = old; after = new }) from to) (sym is) (
+      subst (λ (r : Result A WalkFault). FetchesLevel level r (uses after old new) from to) (sym is) (
         so.done,
         few.nodes,
         fetched_then held after old mid new from via to so.done few.nodes stays so.fetched few.fetched,

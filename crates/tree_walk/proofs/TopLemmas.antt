@@ -26,7 +26,7 @@ use Rattle.tree_walk.proofs.DescentFetches.{differ_append, levels_apart}
 use Rattle.tree_walk.proofs.FetchLemmas.{all_weaker, fetched_one, fetched_then}
 use Rattle.tree_walk.proofs.LevelLemmas.{few_levels_here, top_children, top_entries, top_is, top_met}
 use Rattle.tree_walk.proofs.OpenLevels.{top_account}
-use Rattle.tree_node.proofs.shared.OutcomeLaws.{clash_more, refused_more}
+use Rattle.tree_node.proofs.shared.OutcomeLaws.{clash_more, refused_more, uses}
 
 -- the number of a tree is one
 pub is_tree : (tree : Tree) → IsTree (number_of tree)
@@ -38,28 +38,28 @@ is_tree Backs = (omega arith, omega arith)
 -- ---- which nodes were fetched
 
 -- the top was refused
-pub top_refused : {A : Type 0} (result : Result A WalkFault) (fault : WalkFault) (held old new : List ℕ → Type 0) (from to : ℕ) → result ≡ Err fault → FetchedFew (record { held = held; before = old; after = new }) from to → Fetches result (record { held = held; before = old; after = new }) from to
+pub top_refused : {A : Type 0} (result : Result A WalkFault) (fault : WalkFault) (held old new : List ℕ → Type 0) (from to : ℕ) → result ≡ Err fault → FetchedFew (uses held old new) from to → Fetches result (uses held old new) from to
 top_refused {A} result fault held old new from to is few =
-    subst (λ (r : Result A WalkFault). Fetches r (record { held = held; before = old; after = new }) from to) (sym is) ([], few.nodes, few.fetched, tt, tt, few.few)
+    subst (λ (r : Result A WalkFault). Fetches r (uses held old new) from to) (sym is) ([], few.nodes, few.fetched, tt, tt, few.few)
 
 -- one node alone
-pub top_fetched : (node : Node) (held old new : List ℕ → Type 0) (from to : ℕ) → FetchedNode node (record { held = held; before = old; after = new }) from to
-    → (nodes : List (List ℕ)) × HasFetched (record { held = held; before = old; after = new }) from to nodes × AreDifferent nodes × AllByRecursion IsNodeText nodes × (1 ≤ length nodes)
+pub top_fetched : (node : Node) (held old new : List ℕ → Type 0) (from to : ℕ) → FetchedNode node (uses held old new) from to
+    → (nodes : List (List ℕ)) × HasFetched (uses held old new) from to nodes × AreDifferent nodes × AllByRecursion IsNodeText nodes × (1 ≤ length nodes)
 top_fetched node held old new from to is =
     (is.bytes ∷ [], rw is.counted (fetched_one held old new from is.bytes is.is_held is.grown), ((λ none. none), tt), ((node, is.spells), tt), omega arith)
 
 -- the top, and then memory was refused
-pub top_then_refused : {A : Type 0} (result : Result A WalkFault) (fault : WalkFault) (node : Node) (held old new : List ℕ → Type 0) (from to : ℕ) → result ≡ Err fault → FetchedNode node (record { held = held; before = old; after = new }) from to → Fetches result (record { held = held; before = old; after = new }) from to
+pub top_then_refused : {A : Type 0} (result : Result A WalkFault) (fault : WalkFault) (node : Node) (held old new : List ℕ → Type 0) (from to : ℕ) → result ≡ Err fault → FetchedNode node (uses held old new) from to → Fetches result (uses held old new) from to
 top_then_refused {A} result fault node held old new from to is fetched =
-    subst (λ (r : Result A WalkFault). Fetches r (record { held = held; before = old; after = new }) from to) (sym is)
+    subst (λ (r : Result A WalkFault). Fetches r (uses held old new) from to) (sym is)
     (fetched.bytes ∷ [], [], rw fetched.counted (fetched_one held old new from fetched.bytes fetched.is_held fetched.grown), ((λ none. none), tt), ((node, fetched.spells), tt), omega arith)
 
 pub text_of : (low high : ℕ) (bytes : List ℕ) → IsBetweenLevels low high bytes → IsNodeText bytes
 text_of low high bytes is = (is.0, is.1)
 
 -- the top, and what is below it
-pub top_then_down : {fixed : Bool} {A : Type 0} (result : Result A WalkFault) (tree level : ℕ) (links : List Link) (held after old mid new : List ℕ → Type 0) (from via to : ℕ) → FetchedNode (Inner tree (suc level) links) (record { held = held; before = old; after = mid }) from via → Stays fixed held after
-    → FetchesBelow (suc level) result (record { held = after; before = mid; after = new }) via to → Fetches result (record { held = after; before = old; after = new }) from to
+pub top_then_down : {fixed : Bool} {A : Type 0} (result : Result A WalkFault) (tree level : ℕ) (links : List Link) (held after old mid new : List ℕ → Type 0) (from via to : ℕ) → FetchedNode (Inner tree (suc level) links) (uses held old mid) from via → Stays fixed held after
+    → FetchesBelow (suc level) result (uses after mid new) via to → Fetches result (uses after old new) from to
 top_then_down (Ok value) tree level links held after old mid new from via to top stays down =
     let node = Inner tree (suc level) links in (
       top.bytes ∷ down.0,
@@ -172,8 +172,8 @@ module _ (closing : Bool) (shape : Shape) (tree : ℕ) (entries : List Binding) 
       )
 
   then_ends : {V : Type 0} (cause_of : WalkFault → Cause) (Is Then : V → Type 0) (result : Result V WalkFault) (high : ℕ) (held old mid new : List ℕ → Type 0) → length (levels shape tree entries) ≡ suc (suc high) → ((value : V) → Is value → Then value)
-      → GrownByAll old mid (λ bytes. bytes ≡ top_of (levels shape tree entries)) → Clash (IsOpenedIn closing range (levels shape tree entries) 0 high) new ⊎ EndsBy cause_of Is (IsOpenedIn closing range (levels shape tree entries) 0 high) (record { held = held; before = mid; after = new }) result
-      → Clash (IsOpened closing range (levels shape tree entries)) new ⊎ EndsBy cause_of Then (IsOpened closing range (levels shape tree entries)) (record { held = held; before = old; after = new }) result
+      → GrownByAll old mid (λ bytes. bytes ≡ top_of (levels shape tree entries)) → Clash (IsOpenedIn closing range (levels shape tree entries) 0 high) new ⊎ EndsBy cause_of Is (IsOpenedIn closing range (levels shape tree entries) 0 high) (uses held mid new) result
+      → Clash (IsOpened closing range (levels shape tree entries)) new ⊎ EndsBy cause_of Then (IsOpened closing range (levels shape tree entries)) (uses held old new) result
   then_ends cause_of Is Then result high held old mid new many gives gained (inl clash) =
       inl (clash_more (IsOpenedIn closing range (levels shape tree entries) 0 high) (IsOpened closing range (levels shape tree entries)) new new (of_lower high) (λ x is. is) clash)
   then_ends cause_of Is Then (Err fault) high held old mid new many gives gained (inr refused) =
@@ -194,8 +194,8 @@ module _ (closing : Bool) (shape : Shape) (tree : ℕ) (entries : List Binding) 
 
   -- the top was used, and then what is below it was read
   pub honest_then : {V : Type 0} (cause_of : WalkFault → Cause) (Is Then : V → Type 0) (result : Result V WalkFault) (high : ℕ) (held old mid new : List ℕ → Type 0) → length (levels shape tree entries) ≡ suc (suc high) → ((value : V) → Is value → Then value)
-      → GrownByAll old mid (λ bytes. bytes ≡ top_of (levels shape tree entries)) → Outcome cause_of Is (IsOpenedIn closing range (levels shape tree entries) 0 high) (record { held = held; before = mid; after = new }) result
-      → Outcome cause_of Then (IsOpened closing range (levels shape tree entries)) (record { held = held; before = old; after = new }) result
+      → GrownByAll old mid (λ bytes. bytes ≡ top_of (levels shape tree entries)) → Outcome cause_of Is (IsOpenedIn closing range (levels shape tree entries) 0 high) (uses held mid new) result
+      → Outcome cause_of Then (IsOpened closing range (levels shape tree entries)) (uses held old new) result
   honest_then cause_of Is Then result high held old mid new many gives gained outcome = record { ends = then_ends cause_of Is Then result high held old mid new many gives gained outcome.ends }
 
 module _ {G : Type 0} (gathers : G → List (Option (List ℕ) × Link) → List Binding → Type 0) (closing : Bool) (range : Range) (entries : List Binding) where

@@ -1,12 +1,13 @@
 -- One node that was fetched.
 use Rattle.std.proofs.Common.{ℕ, List, [], ◌∷◌, Option, ap, arith}
 use Rattle.tree_node.specs.Nodes.{Link, Node}
+use Rattle.tree_node.proofs.shared.OutcomeLaws.{uses}
 use Rattle.tree_walk.specs.internal.Pendings.{FetchedFew, FetchedNode, IsStated}
 use Rattle.tree_walk.specs.Reasons.{Agrees}
 use Rattle.tree_walk.proofs.FetchLemmas.{fetched_one}
 
 -- one node is at most one
-pub few_from_node : (node : Node) (held old new : List ℕ → Type 0) (from to : ℕ) → FetchedNode node (record { held = held; before = old; after = new }) from to → FetchedFew (record { held = held; before = old; after = new }) from to
+pub few_from_node : (node : Node) (held old new : List ℕ → Type 0) (from to : ℕ) → FetchedNode node (uses held old new) from to → FetchedFew (uses held old new) from to
 few_from_node node held old new from to is = record {
   nodes = is.bytes ∷ [];
   fetched = rw is.counted (fetched_one held old new from is.bytes is.is_held is.grown);

@@ -1,6 +1,5 @@
 -- A change file that was read: what its changes have to give, and why nothing is added.
-use Rattle.std.specs.Global.{Vec}
-use Rattle.std.specs.Prelude.{◌≡◌, ◌≤◌, ◌++◌, ℕ, List, Option, Some, option_map, ⊤}
+use Rattle.std.specs.Prelude.{◌≡◌, ◌≤◌, ◌++◌, ℕ, List, Option, Some, ⊤}
 use Rattle.hex.specs.Hex.{encode_lower}
 use Rattle.opl_codec.specs.declared.change_file.ChangeFile.{ChangeFile}
 use Rattle.osm_keys.specs.Publications.{Publication, root_of}
@@ -9,12 +8,9 @@ use Rattle.pack_head.specs.declared.limits.TheConstants.{FILES_LIMIT}
 use Rattle.pack_update.specs.Adding.{IsNextBy}
 use Rattle.pack_update.specs.Faults.{IsAddReason}
 use Rattle.osm_desk.specs.AnnouncedRoots.{root_words}
+use Rattle.osm_serving.specs.internal.ReadChanges.{comment_of}
 use Rattle.osm_pack_changes.specs.declared.not_added.NotAdded.{NotAdded}
 use Rattle.osm_pack_changes.specs.declared.not_added.NotAdded.TheVariants.{Device, Files, ManyFiles, Memory, Name, Opl, OtherRoot}
-
--- the comment that the file ends with
-abbrev pub comment_of : ChangeFile → Option (List ℕ)
-comment_of read = option_map (λ (comment : Vec ℕ). comment.items) read.end_comment
 
 -- the root is the one that the comment announces, where it announces one
 abbrev pub IsAsCommented : Option (List ℕ) → List ℕ → Type 0

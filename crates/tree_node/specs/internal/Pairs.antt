@@ -5,7 +5,7 @@ use Rattle.std.specs.List.{IsDistinct}
 use Rattle.tree_node.specs.Keys.{digest_eq, key_of}
 use Rattle.tree_node.specs.Parts.{node_of}
 use Rattle.tree_node.specs.declared.digest.Digest.{Digest}
-use Rattle.tree_node.specs.declared.given.Given.{Given}
+use Rattle.tree_node.specs.declared.recorded_node.RecordedNode.{RecordedNode}
 use Rattle.tree_node.specs.declared.part.Part.{Part}
 
 -- a part as an entry of a map by digest
@@ -13,7 +13,7 @@ abbrev pub pair_of : Part → Digest × Bor (List ℕ)
 pair_of part = (part.digest, part.bytes)
 
 -- an entry of a recorder's map, without what was read of it
-abbrev pub lent_of : Digest × Given → Digest × Bor (List ℕ)
+abbrev pub lent_of : Digest × RecordedNode → Digest × Bor (List ℕ)
 lent_of entry = (entry.0, entry.1.bytes)
 
 -- the key of a part's node

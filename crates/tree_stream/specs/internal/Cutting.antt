@@ -1,17 +1,8 @@
 -- How far the cutting of a list into pieces has come.
-use Rattle.std.specs.Prelude.{ℕ, zero, suc, ◌+◌, List, [], ◌∷◌, ◌++◌, length, map, Bool, if◌then◌else◌}
+use Rattle.std.specs.Prelude.{ℕ, zero, suc, ◌+◌, List, [], map}
 use Rattle.tree_node.specs.Nodes.{Binding, Link, Node, Leaf, Inner}
 use Rattle.tree_node.specs.Trees.{Shape, ends_by, is_marked_entry, is_marked_link, link_to}
-
--- what is pending once these items have come, where this was pending before
-abbrev pub pending_after : {X : Type 0} → (ℕ → X → Bool) → List X → List X → List X
-pending_after ends pending [] = pending
-pending_after ends pending (x ∷ xs) = if ends (length pending + 1) x then pending_after ends [] xs else pending_after ends (pending ++ x ∷ []) xs
-
--- the pieces that have ended by then
-abbrev pub done_by : {X : Type 0} → (ℕ → X → Bool) → List X → List X → List (List X)
-done_by ends pending [] = []
-done_by ends pending (x ∷ xs) = if ends (length pending + 1) x then (pending ++ x ∷ []) ∷ done_by ends [] xs else done_by ends (pending ++ x ∷ []) xs
+use Rattle.tree_build.specs.internal.Cutting.{done_by, pending_after}
 
 -- the entries that are pending, and the leaves that are done
 abbrev pub entries_left : Shape → List Binding → List Binding

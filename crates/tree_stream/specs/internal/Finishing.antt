@@ -7,7 +7,7 @@ use Rattle.tree_node.specs.declared.digest.Digest.{Digest}
 use Rattle.tree_stream.specs.declared.finish.Top.{Top}
 use Rattle.tree_stream.specs.declared.level.OpenLevel.{OpenLevel}
 use Rattle.tree_stream.specs.internal.Opening.{AreOpen}
-use Rattle.tree_stream.specs.internal.Writing.{AreWithin}
+use Rattle.tree_build.specs.internal.Building.{AreWithin}
 
 -- The digest is that of the only node; none, where there isn't exactly one.
 abbrev pub IsTopOver : Option Digest → List Node → Type 0

@@ -5,7 +5,7 @@ use Rattle.tree_node.specs.Trees.{Shape, last_key, link_to}
 use Rattle.tree_stream.specs.declared.level.OpenLevel.{OpenLevel}
 use Rattle.tree_stream.specs.internal.Cutting.{done_above, links_left}
 use Rattle.tree_stream.specs.internal.Holding.{HoldsAt}
-use Rattle.tree_stream.specs.internal.Writing.{AreWithin}
+use Rattle.tree_build.specs.internal.Building.{AreWithin}
 
 -- The levels over these nodes, which are of level `at`, have come just as far as the nodes let them: what is pending is
 -- held, what is done was written, and a level is there exactly where an item came.

@@ -4,7 +4,7 @@ use Rattle.std.proofs.lemmas.Slice.Eq.{strip_prefix_is}
 use Rattle.std.specs.Global.{Vec}
 use Rattle.std.specs.Prelude.{option_map}
 use Rattle.osm_desk.specs.AnnouncedRoots.{root_words}
-use Rattle.osm_pack_changes.specs.internal.Reading.{comment_of}
+use Rattle.osm_serving.specs.internal.ReadChanges.{comment_of}
 use Rattle.osm_pack_changes.proofs.AddLemmas.{as_commented}
 use Rattle.osm_pack_changes.proofs.add_command.is_as_announced.Goals as goal
 

@@ -3,6 +3,7 @@ use Rattle.smallvec.specs.SmallVec.{SmallVec}
 use Rattle.tree_node.specs.NodeRefs.{number_of}
 use Rattle.tree_node.specs.Nodes.{Binding, Link}
 use Rattle.tree_node.specs.Trees.{levels}
+use Rattle.tree_node.proofs.shared.OutcomeLaws.{uses}
 use Rattle.tree_walk.specs.internal.Accounts.{Account, AreBelowLevel, Gains}
 use Rattle.tree_walk.specs.internal.Openings.{IsClosedChild, IsOpenedIn}
 use Rattle.tree_walk.specs.internal.Gatherings.{GathersFrom}
@@ -119,8 +120,8 @@ returns-clause-gives g c =
     let last : c.loop-level.level ≡ 0 = omega (arith, c.loop-level-test.false) in
     let so = subst (λ (n : ℕ). GatheringDown gathers closes tree range c.args.level (spots_of c.args.pending.items) c.args.gathered.now old from n (g.S.Shelf.holds c.loop-level.shelf) mid c.loop-level.tally.fetches pending c.loop-level.gathered) last c.loop-level.invariant.gives in
     on_ok c.take_leaves.result
-    (GathersFrom gathers closes (IsOfLevel 0) (record { held = after; before = mid; after = new }) c.loop-level.tally.fetches c.take_leaves.new.tally.fetches tree range (map (wanted_of 0) pending) c.loop-level.gathered c.take_leaves.new.gathered)
-    (GathersFrom gathers closes (IsBetweenLevels 0 (suc c.args.level)) (record { held = after; before = old; after = new }) from c.take_leaves.new.tally.fetches tree range (map (wanted_of c.args.level) (spots_of c.args.pending.items)) c.args.gathered.now c.take_leaves.new.gathered)
+    (GathersFrom gathers closes (IsOfLevel 0) (uses after mid new) c.loop-level.tally.fetches c.take_leaves.new.tally.fetches tree range (map (wanted_of 0) pending) c.loop-level.gathered c.take_leaves.new.gathered)
+    (GathersFrom gathers closes (IsBetweenLevels 0 (suc c.args.level)) (uses after old new) from c.take_leaves.new.tally.fetches tree range (map (wanted_of c.args.level) (spots_of c.args.pending.items)) c.args.gathered.now c.take_leaves.new.gathered)
     (λ leaves. gathering_end gathers closes tree range c.args.level (spots_of c.args.pending.items) c.args.gathered.now old from (g.S.Shelf.holds c.loop-level.shelf) after mid new c.loop-level.tally.fetches c.take_leaves.new.tally.fetches pending c.loop-level.gathered c.take_leaves.new.gathered
     so c.take_leaves.ensures.stays leaves)
     (rw (sym c.as_slice-2.ensures) c.take_leaves.ensures.gives)

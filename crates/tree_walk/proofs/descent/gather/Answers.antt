@@ -16,7 +16,7 @@ use Rattle.tree_walk.specs.declared.fault.WalkFault.{WalkFault}
 use Rattle.tree_walk.specs.declared.pending.Pending.{Pending}
 use Rattle.tree_walk.specs.declared.fault.WalkFault.TheVariants.{Memory}
 use Rattle.tree_walk.proofs.LevelLemmas.{top_is}
-use Rattle.tree_node.proofs.shared.OutcomeLaws.{clash_more}
+use Rattle.tree_node.proofs.shared.OutcomeLaws.{clash_more, uses}
 use Rattle.tree_node.proofs.shared.Results.{err_is}
 use Rattle.tree_walk.proofs.ReasonLemmas.{all_those, children_wanted, refused_for, refused_memory, refused_missing}
 use Rattle.tree_walk.specs.Reasons.{FromTop, IsAccepted, IsWanted, Top}
@@ -168,7 +168,7 @@ returns-in_ok-take-in-Leaf-clause-gives g c =
     let range = range_of c.args.range.now in
     let used = g.S.Shelf.used c.open.new.shelf in
     let taken = c.in_ok-take-in-Leaf.ensures in
-    let top = subst (λ (n : Node). FetchedNode n (record { held = g.S.Shelf.holds c.open.new.shelf; before = g.S.Shelf.used c.args.shelf.now; after = used }) c.count_call.new.self.fetches c.open.new.tally.fetches) (ap node_read c.in-Leaf.is) c.in_ok-entries.ensures.opens in
+    let top = subst (λ (n : Node). FetchedNode n (uses (g.S.Shelf.holds c.open.new.shelf) (g.S.Shelf.used c.args.shelf.now) used) c.count_call.new.self.fetches c.open.new.tally.fetches) (ap node_read c.in-Leaf.is) c.in_ok-entries.ensures.opens in
     let accepted = subst (λ (n : Node). IsAccepted used (number_of c.args.tree) (Top c.args.top.now.0) n) (ap node_read c.in-Leaf.is) c.in_ok-entries.ensures.accepted in
     rw (sym c.count_call.ensures.fetches) (gathers_top_leaf g.G.Gather.gathers (IsClosedChild g.G.Gather.closing range) (number_of c.args.tree) range c.args.top.now.0 (number_of c.in-Leaf.tree) c.in-Leaf.entries taken.0
     (g.S.Shelf.holds c.open.new.shelf) (g.S.Shelf.used c.args.shelf.now) used c.count_call.new.self.fetches c.open.new.tally.fetches c.args.gathered.now c.take.new.gathered top accepted taken.1 taken.2)
@@ -187,13 +187,13 @@ returns-in_ok-pick-in-Inner-clause-gives g c =
     let new = g.S.Shelf.used c.descend.new.shelf in
     let picked = c.in_ok-pick-in-Inner.ensures in
     let are : spots_of c.pick.new.pending.items ≡ picked.0 = picked.2 ∙ ap (λ (ps : List Pending). spots_of ps ++ picked.0) c.new-pending.ensures.items in
-    let is_top = subst (λ (n : Node). FetchedNode n (record { held = held; before = old; after = mid }) c.count_call.new.self.fetches c.open.new.tally.fetches) (ap node_read c.in-Inner.is) c.in_ok-entries.ensures.opens in
+    let is_top = subst (λ (n : Node). FetchedNode n (uses held old mid) c.count_call.new.self.fetches c.open.new.tally.fetches) (ap node_read c.in-Inner.is) c.in_ok-entries.ensures.opens in
     let level : suc low ≡ c.in-Inner.level = omega (arith, is_top.spells.0.1) in
-    let top = subst (λ (l : ℕ). FetchedNode (Inner (number_of c.in-Inner.tree) l c.in-Inner.children) (record { held = held; before = old; after = mid }) c.count_call.new.self.fetches c.open.new.tally.fetches) (sym level) is_top in
+    let top = subst (λ (l : ℕ). FetchedNode (Inner (number_of c.in-Inner.tree) l c.in-Inner.children) (uses held old mid) c.count_call.new.self.fetches c.open.new.tally.fetches) (sym level) is_top in
     let accepted = subst (λ (n : Node). IsAccepted mid tree (Top c.args.top.now.0) n) (ap node_read c.in-Inner.is ∙ ap (λ (l : ℕ). Inner (number_of c.in-Inner.tree) l c.in-Inner.children) (sym level)) c.in_ok-entries.ensures.accepted in
-    let from_top = λ (spots : List (Option (List ℕ) × Link)). GathersFrom gathers closes (IsBetweenLevels 0 (suc low)) (record { held = after; before = mid; after = new }) c.open.new.tally.fetches c.descend.new.tally.fetches tree range (map (wanted_of low) spots) c.pick.new.gathered c.descend.new.gathered in
+    let from_top = λ (spots : List (Option (List ℕ) × Link)). GathersFrom gathers closes (IsBetweenLevels 0 (suc low)) (uses after mid new) c.open.new.tally.fetches c.descend.new.tally.fetches tree range (map (wanted_of low) spots) c.pick.new.gathered c.descend.new.gathered in
     rw (sym c.count_call.ensures.fetches) (on_ok c.descend.result (from_top picked.0)
-    (GathersFrom gathers closes IsNodeText (record { held = after; before = old; after = new }) c.count_call.new.self.fetches c.descend.new.tally.fetches tree range (Top c.args.top.now.0 ∷ []) c.args.gathered.now c.descend.new.gathered)
+    (GathersFrom gathers closes IsNodeText (uses after old new) c.count_call.new.self.fetches c.descend.new.tally.fetches tree range (Top c.args.top.now.0 ∷ []) c.args.gathered.now c.descend.new.gathered)
     (λ down. gathers_top_inner gathers closes tree range c.args.top.now.0 (number_of c.in-Inner.tree) low c.in-Inner.children picked.0 picked.1 held after old mid new c.count_call.new.self.fetches c.open.new.tally.fetches c.descend.new.tally.fetches
     c.args.gathered.now c.pick.new.gathered c.descend.new.gathered top accepted picked.6 picked.4 picked.5 c.descend.ensures.stays down)
     (subst (λ (spots : List (Option (List ℕ) × Link)). OnOk c.descend.result (from_top spots)) are c.descend.ensures.gives))

@@ -4,6 +4,7 @@ use Rattle.std.proofs.Math.ListN.{drop_of_length-le}
 use Rattle.tree_node.specs.NodeRefs.{number_of}
 use Rattle.tree_node.specs.Nodes.{Inner, Link, Node}
 use Rattle.tree_node.specs.Trees.{links_in}
+use Rattle.tree_node.proofs.shared.OutcomeLaws.{uses}
 use Rattle.tree_walk.specs.Choices.{AreThose}
 use Rattle.tree_walk.specs.internal.Accounts.{Gains}
 use Rattle.tree_walk.specs.internal.Openings.{IsClosedChild, IsOpenChild}
@@ -45,7 +46,7 @@ returns-in_err-children-clause-answer g c = λ all stated.
     let before = subst (λ (rest : List (Option (List ℕ) × Link)). HonestSoFar items has (number_of c.args.way.now.tree) c.args.level spots rest found (g.S.Shelf.used c.args.shelf.now) (g.S.Shelf.used c.loop-node.shelf))
     (rest_is c.args.nodes.now c.loop-node.node-index _ c.loop-node-test.true) c.loop-node.invariant.honest in
     subst (λ (r : Result (SmallVec Pending) WalkFault). Outcome cause_of (λ (pending : SmallVec Pending). AreThose has (children_of_all all) (spots_of pending.items)
-    × ((closed : List (Option (List ℕ) × Link)) × AreThose (IsClosedChild g.G.Gather.closing (range_of c.args.way.now.range.now)) (children_of_all all) closed × Gains g.G.Gather.gathers c.args.gathered.now c.loop-node.gathered closed [])) (IsOneOf all) (record { held = g.S.Shelf.holds c.open_inner.new.shelf; before = g.S.Shelf.used c.args.shelf.now; after = used }) r)
+    × ((closed : List (Option (List ℕ) × Link)) × AreThose (IsClosedChild g.G.Gather.closing (range_of c.args.way.now.range.now)) (children_of_all all) closed × Gains g.G.Gather.gathers c.args.gathered.now c.loop-node.gathered closed [])) (IsOneOf all) (uses (g.S.Shelf.holds c.open_inner.new.shelf) (g.S.Shelf.used c.args.shelf.now) used) r)
     (sym (err_is c.from_residual.result c.in_err-children.field-0.0 c.from_residual.ensures.1))
     (record {
       ends = honest_stop items has (number_of c.args.way.now.tree) c.args.level (cause_of c.in_err-children.field-0.0) (g.S.Shelf.holds c.open_inner.new.shelf) spots (spots_of (drop (c.loop-node.node-index + 1) c.args.nodes.now)) _ found

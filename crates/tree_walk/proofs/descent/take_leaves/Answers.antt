@@ -3,6 +3,7 @@ use Rattle.std.proofs.Math.ListN.{drop_of_length-le}
 use Rattle.tree_node.specs.NodeRefs.{number_of}
 use Rattle.tree_node.specs.Nodes.{Binding, Leaf, Link, Node}
 use Rattle.tree_node.specs.Trees.{entries_in}
+use Rattle.tree_node.proofs.shared.OutcomeLaws.{uses}
 use Rattle.tree_walk.specs.Choices.{AreThose}
 use Rattle.tree_walk.specs.internal.Accounts.{Gains}
 use Rattle.tree_walk.specs.Fetches.{cause_of}
@@ -45,7 +46,7 @@ returns-in_err-entries-clause-answer g c = λ all stated.
     let used = g.S.Shelf.used c.open_leaf.new.shelf in
     let before = subst (λ (rest : List (Option (List ℕ) × Link)). HonestSoFar items has (number_of c.args.way.now.tree) 0 spots rest found (g.S.Shelf.used c.args.shelf.now) (g.S.Shelf.used c.loop-node.shelf))
     (rest_is c.args.nodes.now c.loop-node.node-index _ c.loop-node-test.true) c.loop-node.invariant.honest.2 in
-    subst (λ (r : Result (Unit {0}) WalkFault). Outcome cause_of (λ (_ : Unit {0}). (those : List Binding) × AreThose has (entries_of_all all) those × Gains g.G.Gather.gathers c.args.gathered.now c.loop-node.gathered [] those) (IsOneOf all) (record { held = g.S.Shelf.holds c.open_leaf.new.shelf; before = g.S.Shelf.used c.args.shelf.now; after = used }) r)
+    subst (λ (r : Result (Unit {0}) WalkFault). Outcome cause_of (λ (_ : Unit {0}). (those : List Binding) × AreThose has (entries_of_all all) those × Gains g.G.Gather.gathers c.args.gathered.now c.loop-node.gathered [] those) (IsOneOf all) (uses (g.S.Shelf.holds c.open_leaf.new.shelf) (g.S.Shelf.used c.args.shelf.now) used) r)
     (sym (err_is c.from_residual.result c.in_err-entries.field-0.0 c.from_residual.ensures.1))
     (record {
       ends = honest_stop items has (number_of c.args.way.now.tree) 0 (cause_of c.in_err-entries.field-0.0) (g.S.Shelf.holds c.open_leaf.new.shelf) spots (spots_of (drop (c.loop-node.node-index + 1) c.args.nodes.now)) _ found

@@ -4,7 +4,7 @@ use Rattle.tree_node.specs.Digests.{digest}
 use Rattle.tree_node.specs.NodeRefs.{link_of, links_of, number_of}
 use Rattle.tree_node.specs.Nodes.{Inner, Link, spelling}
 use Rattle.tree_stream.specs.internal.Holding.{HoldsLinks, link_total}
-use Rattle.tree_stream.specs.internal.Writing.{AreWithin}
+use Rattle.tree_build.specs.internal.Building.{AreWithin}
 use Rattle.tree_stream.proofs.HoldLemmas.{level_items, links_total}
 use Rattle.tree_stream.proofs.WithinLemmas.{greatest_fits}
 use Rattle.tree_stream.proofs.level.OpenLevel.write_node.Goals as goal

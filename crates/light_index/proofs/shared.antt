@@ -1,0 +1,7 @@
+-- Lemmas for the crates above.
+pub mod LightEntriesFit
+pub mod OneLightPublication
+pub mod LightEntryBytes
+pub mod LightNodeSorts
+pub mod SomeLightPublication
+pub mod OneLightHeld

@@ -1,0 +1,7 @@
+pub mod LightEntries
+pub mod LightPublications
+pub mod LightLines
+pub mod LightEntryLists
+pub mod LightHoldings
+pub mod LightSnapshots
+pub mod internal

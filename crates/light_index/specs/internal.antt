@@ -1,0 +1,3 @@
+-- Words that only private clauses cite: nothing that a reader of the promises must believe.
+pub mod LightListing
+pub mod LightPutting
