@@ -32,7 +32,7 @@ use Rattle.ql_eval.specs.TrueFaults.{IsNamedIn}
 use Rattle.ql_eval.specs.declared.fault.EvalFault.{EvalFault}
 use Rattle.ql_eval.specs.internal.Entries.{IsSaid, SaysIn}
 use Rattle.ql_eval.specs.internal.Giving.{AllGiven, AllSetsGiven}
-use Rattle.ql_eval.specs.internal.Objects.{IsGivenOrThere}
+use Rattle.ql_eval.specs.internal.Objects.{IsGivenOrThere, IsKnownThere}
 
 -- ---- lists of references
 
@@ -109,11 +109,11 @@ pub given_later : (used later : Nodes) (m : Manifest) (old new : BTreeMap Ref (O
 given_later used later m old new grows keeps r (inl named) = inl (named_more used later m r grows named)
 given_later used later m old new grows keeps r (inr (o, there)) = inr (o, keeps r (Some o) there)
 
--- an object that a look-up found was given
-pub found_is_given : (knows : Ref → Option Element → Type 0) (gave : Ref → Type 0) (r : Ref) (lent : Option (Bor Element)) → (object : Option Element) × knows r object
-    → ((object : Option Element) → knows r object → option_copied lent ≡ object) → is_some lent ≡ true → ((o : Element) → knows r (Some o) → gave r) → gave r
-found_is_given knows gave r None known says is found = absurd cc
-found_is_given knows gave r (Some o) known says is found = found o.now (subst (λ (object : Option Element). knows r object) (sym (says known.0 known.1)) known.1)
+-- an object that a look-up found is known
+pub found_known : (knows : Ref → Option Element → Type 0) (r : Ref) (lent : Option (Bor Element)) → (object : Option Element) × knows r object
+    → ((object : Option Element) → knows r object → option_copied lent ≡ object) → is_some lent ≡ true → IsKnownThere knows r
+found_known knows r None known says is = absurd cc
+found_known knows r (Some o) known says is = (o.now, subst (λ (object : Option Element). knows r object) (sym (says known.0 known.1)) known.1)
 
 -- ---- named sets
 

@@ -1,5 +1,5 @@
 -- What objects list, and what lists them.
-use Rattle.std.proofs.Common.{◌≡◌, ◌≢◌, ◌↔◌, ◌⊎◌, inl, inr, ℕ, List, [], ◌∷◌, ◌++◌, Option, Some, None, true, false, refl, sym, ap, subst, ◌∙◌}
+use Rattle.std.proofs.Common.{◌≡◌, ◌≢◌, ◌↔◌, ◌⊎◌, inl, inr, Bool, IsTrue, ℕ, List, [], ◌∷◌, ◌++◌, Option, Some, None, true, false, refl, sym, ap, subst, ◌∙◌}
 use Rattle.std.specs.List.{Contains}
 use Rattle.std.specs.Borrow.{Bor}
 use Rattle.std.specs.Option.{is_some, option_copied}
@@ -45,16 +45,17 @@ object_lists objects name o list more set found so =
     let (there, named) = object_found objects name o (sym found) in
     adds_as (λ r lists. (o, there, named, lists)) (λ r (other, there_too, named_too, lists). subst (λ (e : Element). BodyLists e.body r) (one_object objects other o set there_too there (named_too ∙ sym named)) lists) so
 
--- a reference whose object is there
-pub there_added : (objects : List Element) (name : Ref) (list more : List Ref) (known : Option (Bor Element)) → IsObjectSet objects → option_copied known ≡ object_at objects name → is_some known ≡ true
-    → more ≡ list ++ name ∷ [] → Adds list more (IsThereAs objects name)
-there_added objects name list more (Some o) set is t e = let found = object_found objects name o.now (sym is) in adds_one name e (refl, (o.now, found.0, found.1)) (λ r has. has.0)
-there_added objects name list more None set is t e = absurd cc
+-- whether an object is there, as what is known of its reference tells
+pub is_there : (objects : List Element) (name : Ref) (known : Option (Bor Element)) (is : Bool) → IsObjectSet objects → is ≡ is_some known → option_copied known ≡ object_at objects name → IsTrue is ↔ IsThere objects name
+is_there objects name (Some o) is set e at = let found = object_found objects name o.now (sym at) in ((λ yes. (o.now, found.0, found.1)), (λ there. e))
+is_there objects name None is set e at = ((λ yes. let never : false ≡ true = sym e ∙ yes in cc), (λ there. absurd (none_there objects name set (sym at) there)))
 
-pub absent_added : (objects : List Element) (name : Ref) (list : List Ref) (known : Option (Bor Element)) → IsObjectSet objects → option_copied known ≡ object_at objects name → is_some known ≡ false
-    → Adds list list (IsThereAs objects name)
-absent_added objects name list (Some o) set is e = absurd cc
-absent_added objects name list None set is e = adds_nothing (λ r has. none_there objects name set (sym is) has.1)
+-- a reference whose object is there
+pub there_added : (objects : List Element) (name : Ref) (list more : List Ref) → IsThere objects name → more ≡ list ++ name ∷ [] → Adds list more (IsThereAs objects name)
+there_added objects name list more there e = adds_one name e (refl, there) (λ r has. has.0)
+
+pub absent_added : (objects : List Element) (name : Ref) (list : List Ref) → ¬ IsThere objects name → Adds list list (IsThereAs objects name)
+absent_added objects name list nowhere = adds_nothing (λ r has. nowhere has.1)
 
 -- what a set has
 pub set_added : {Gives : Ref → Type 0} (set list more : List Ref) → IsSetOf set Gives → more ≡ list ++ set → Adds list more Gives

@@ -113,8 +113,8 @@ fn add_there<W: Source>(source: &mut W, name: Ref, there: &mut Vec<Ref>) -> Resu
         (λ _. Adds there.old.items there.new.items (IsThereAs p.objects name))
         (NeededBy p (IsObjectAsk name)) result }
 {
-    source.look_up(name)?;
-    if source.known(name).is_some() {
+    let is_there = source.has(name)?;
+    if is_there {
         there.push(name)?;
     }
     Ok(())

@@ -147,8 +147,6 @@ impl<'s, 'q, 'a, S: Shelf<'a>> Source for ShelfSource<'s, 'q, 'a, S> {
 
     ghost listed_may = { λ o name r object known lists. inr (name, object, known, lists) };
 
-    ghost found_gave = { λ o r object known. inl (inr (object, known)) };
-
     ghost not_there = { λ o r known given absent kept.
         let entry : IsGivenOrThere (S.used o.shelf.now) o.manifest o.objects.now r = elim given [ inl one ↦ one | inr is ↦ kept r is ] in
         (r, elim entry [ inl named ↦ named | inr there ↦ absurd (subst IsToldAbsent (sym known ∙ there.1) tt) ], absent r known) };
@@ -173,6 +171,11 @@ impl<'s, 'q, 'a, S: Shelf<'a>> Source for ShelfSource<'s, 'q, 'a, S> {
 
     fn announce(&mut self, name: Ref) {
         announce_object(&mut *self.shelf, &self.manifest, name);
+    }
+
+    fn has(&mut self, name: Ref) -> Result<bool, EvalFault> {
+        self.look_up(name)?;
+        Ok(self.known(name).is_some())
     }
 
     fn look_up(&mut self, name: Ref) -> Result<(), EvalFault> {

@@ -1,6 +1,6 @@
 //! What an evaluation asks.
 
-ghost use Rattle.std.specs.Prelude.{Bool, ◌≡◌, ℕ, IfErr, IfOk, IfSome, List, None, OnOk, Option, Some};
+ghost use Rattle.std.specs.Prelude.{Bool, ◌≡◌, ◌↔◌, ℕ, IfErr, IfOk, IfSome, IsTrue, List, None, OnOk, Option, Some};
 ghost use Rattle.std.specs.Option.{option_copied};
 ghost use Rattle.osm_model.specs.Elements.{Element};
 ghost use Rattle.osm_model.specs.Membership.{BodyLists};
@@ -17,7 +17,7 @@ ghost use Rattle.ql_eval.specs.internal.Boxes.{IsInBox};
 ghost use Rattle.ql_eval.specs.Work.{IsInCellsOf};
 ghost use Rattle.ql_eval.specs.Faults.{cause_of_evaluation};
 ghost use Rattle.ql_eval.specs.Questions.{Answers, IsCountOf, NeededBy, NeedsAsk, count_ask, names_ask, object_ask};
-ghost use Rattle.ql_eval.specs.internal.Entries.{HasNoNulIn};
+ghost use Rattle.ql_eval.specs.internal.Entries.{HasNoNulIn, IsThere};
 ghost use Rattle.ql_eval.specs.declared.fault.EvalFault.{EvalFault};
 ghost use Rattle.ql_eval.specs.declared.fault.EvalFault.TheVariants.{Absent, Memory};
 ghost use Rattle.ql_syntax.specs.declared.recursion.Recursion.{Recursion};
@@ -85,8 +85,20 @@ pub(crate) trait Source {
         ensures truly { StaysTrue under self.old self.new }
         ensures used { SameNodes (used self.old) (used self.new) };
 
-    /// Looks up the object with this reference, unless that was done before. Afterwards it is known. A walk counts as one
-    /// of a sound evaluation only if it found the object, or the object may be absent.
+    /// Whether the object with this reference is there, which needn't be so.
+    fn has(&mut self, name: Ref) -> Result<bool, EvalFault>
+        requires { may_be_absent self.old name }
+        ensures later { later self.old self.new }
+        ensures walked { OnOk result (walked self.old self.new) }
+        ensures told { IfErr result (tells self.new) }
+        ensures named { IfOk result (λ is. IsTrue is → gave self.new name) }
+        ensures answer { (p : Publication) → IsPublication p → under self.old p
+            → EndsTruly holds used under self.old self.new p
+            (λ is. IsTrue is ↔ IsThere p.objects name)
+            (NeedsAsk p (object_ask name)) result };
+
+    /// Looks up the object with this reference, which is there, unless that was done before. Afterwards it is known. A walk
+    /// counts as one of a sound evaluation only if it found the object, or the object may be absent.
     fn look_up(&mut self, name: Ref) -> Result<(), EvalFault>
         ensures later { later self.old self.new }
         ensures walked { OnOk result
@@ -198,8 +210,6 @@ pub(crate) trait Source {
 
     ghost listed_may: { (s : Self) (name r : Ref) (o : Element) → knows s name (Some o)
         → BodyLists o.body r → may_be_absent s r };
-
-    ghost found_gave: { (s : Self) (r : Ref) (o : Element) → knows s r (Some o) → gave s r };
 
     ghost not_there: { (s : Self) (r : Ref) → knows s r None → gave s r → tells s Absent };
 
