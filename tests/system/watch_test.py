@@ -1,4 +1,4 @@
-"""`packaging/watch`, which a timer of systemd runs: it starts a mirror anew that doesn't answer, or whose head names another root,
+"""`packaging/watch`, which a timer of systemd runs: it restarts a mirror that doesn't answer, or whose head names another root,
 and leaves every other one alone. In place of systemctl stands a script that notes how it is called."""
 
 import os
@@ -45,7 +45,7 @@ NOTHING = (Outcome(b"", b"", 0), "")
 
 
 def check_heads(tally, watch, folder):
-    """A mirror over a head is started anew once the head names another root, and one over a pack or a text never."""
+    """A mirror over a head is restarted once the head names another root, and one over a pack or a text never."""
     packed(set_file(b"F"), folder / "town.pack")
     head = folder / "town.pack.head"
     with server(folder / "town.pack") as running:
@@ -98,7 +98,7 @@ def answer_badly(listener):
 
 
 def check_silence(tally, watch, folder):
-    """What takes a connection and doesn't answer is started anew; another server on the port is left alone."""
+    """What takes a connection and doesn't answer is restarted; another server on the port is left alone."""
     head = folder / "town.pack.head"
     with socket.create_server(("127.0.0.1", 0)) as listener:
         port = listener.getsockname()[1]
