@@ -1,6 +1,7 @@
 -- Entries that are given tree by tree.
 use Rattle.std.proofs.Common.{◌≡◌, ◌≢◌, List, [], sym, subst, ◌∙◌}
 use Rattle.osm_keys.specs.Entries.{AreEntriesOf}
+use Rattle.osm_keys.specs.Grains.{Whole}
 use Rattle.osm_model.specs.Elements.{Element}
 use Rattle.tree_node.specs.Nodes.{Binding}
 use Rattle.tree_node.specs.declared.tree.Tree.{Tree}
@@ -43,9 +44,9 @@ module _ (a b c d e : Tree → List Binding) (objects : Keeps Objects a b) (tags
   tags_stay = backs Tags (λ x. backs_tags (sym x)) ∙ cells Tags (λ x. cells_tags (sym x))
 
   -- each tree's entries are there at the end
-  pub all_given : (set : List Element) → AreEntriesOf set Objects (b Objects) → AreEntriesOf set Tags (c Tags) → AreEntriesOf set Cells (d Cells) → AreEntriesOf set Backs (e Backs) → (tree : Tree) → AreEntriesOf set tree (e tree)
-  all_given set o t s k = by_tree (λ tree. AreEntriesOf set tree (e tree))
-      (subst (AreEntriesOf set Objects) (sym objects_stay) o)
-      (subst (AreEntriesOf set Tags) (sym tags_stay) t)
-      (subst (AreEntriesOf set Cells) (sym (backs Cells (λ x. backs_cells (sym x)))) s)
+  pub all_given : (set : List Element) → AreEntriesOf Whole set Objects (b Objects) → AreEntriesOf Whole set Tags (c Tags) → AreEntriesOf Whole set Cells (d Cells) → AreEntriesOf Whole set Backs (e Backs) → (tree : Tree) → AreEntriesOf Whole set tree (e tree)
+  all_given set o t s k = by_tree (λ tree. AreEntriesOf Whole set tree (e tree))
+      (subst (AreEntriesOf Whole set Objects) (sym objects_stay) o)
+      (subst (AreEntriesOf Whole set Tags) (sym tags_stay) t)
+      (subst (AreEntriesOf Whole set Cells) (sym (backs Cells (λ x. backs_cells (sym x)))) s)
       k

@@ -12,6 +12,7 @@ use Rattle.tree_node.specs.Nodes.{Binding}
 use Rattle.tree_node.specs.declared.tree.Tree.{Tree}
 use Rattle.tree_node.specs.declared.tree.Tree.TheVariants.{Objects, Tags, Cells, Backs}
 use Rattle.osm_keys.specs.Entries.{AreEntriesOf, IsEntryOfSome}
+use Rattle.osm_keys.specs.Grains.{Whole}
 use Rattle.osm_keys.specs.Keys.{cell_bytes, column, id_bytes, ref_key, row}
 use Rattle.osm_keys.proofs.shared.OneObject.{is_element, one_object, same_id, same_ref}
 use Rattle.osm_index.specs.EntryLists.{IsKeyed}
@@ -24,7 +25,7 @@ unfolding cell_bytes
 ids_of_cells a b c d y z e = ap (λ (bytes : List ℕ). drop 4 bytes) e
 
 module _ (objects : List Element) (set : IsObjectSet objects) where
-  entries_keyed : (tree : Tree) (a b : Binding) → IsEntryOfSome objects tree a → IsEntryOfSome objects tree b → a.key ≡ b.key → a ≡ b
+  entries_keyed : (tree : Tree) (a b : Binding) → IsEntryOfSome Whole objects tree a → IsEntryOfSome Whole objects tree b → a.key ≡ b.key → a ≡ b
   entries_keyed Objects a b h k e =
       let refs : ref_key (reference h.0) ≡ ref_key (reference k.0) = sym (ap (λ (x : Binding). x.key) h.2) ∙ e ∙ ap (λ (x : Binding). x.key) k.2 in
       let one = one_object objects h.0 k.0 set h.1 k.1 (same_ref (reference h.0) (reference k.0) (is_element objects h.0 set h.1).in_range (is_element objects k.0 set k.1).in_range refs) in
@@ -42,12 +43,12 @@ module _ (objects : List Element) (set : IsObjectSet objects) where
   entries_keyed Backs a b (o, there, (target, lists, is)) (o', there', (target', lists', is')) e = cc
 
   -- sorted records, each entry once
-  pub are_entries : (tree : Tree) (records given : List Entry) → ((b : Binding) → Contains (bindings_of records) b ↔ IsEntryOfSome objects tree b) → IsPermutation records given → Rises given
-      → AreEntriesOf objects tree (once_from None given)
+  pub are_entries : (tree : Tree) (records given : List Entry) → ((b : Binding) → Contains (bindings_of records) b ↔ IsEntryOfSome Whole objects tree b) → IsPermutation records given → Rises given
+      → AreEntriesOf Whole objects tree (once_from None given)
   are_entries tree records given members order rises =
       let moved = IsPermutation-map binding_of records given order in
       let back = IsPermutation-sym (bindings_of records) (bindings_of given) moved in
-      let into : (b : Binding) → Contains (bindings_of given) b → IsEntryOfSome objects tree b = λ b h. (members b).0 (Contains-permutation (bindings_of given) (bindings_of records) b back h) in
+      let into : (b : Binding) → Contains (bindings_of given) b → IsEntryOfSome Whole objects tree b = λ b h. (members b).0 (Contains-permutation (bindings_of given) (bindings_of records) b back h) in
       let keyed : IsKeyed (bindings_of given) = λ a b h k e. entries_keyed tree a b (into a h) (into b k) e in
       record {
         rising = once_rises None given;

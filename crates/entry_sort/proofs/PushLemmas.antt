@@ -12,6 +12,7 @@ use Rattle.tree_node.specs.declared.item.Item.{Item}
 use Rattle.tree_node.specs.declared.tree.Tree.{Tree}
 use Rattle.osm_keys.specs.Entries.{AreEntriesOf, IsEntryOfSome}
 use Rattle.osm_keys.proofs.shared.EntriesFit.{entries_fit}
+use Rattle.osm_keys.specs.Grains.{Whole}
 use Rattle.external_sort.specs.Records.{Entry, Fits}
 use Rattle.external_sort.specs.Sorting.{IsTooLong}
 use Rattle.entry_sort.specs.internal.Once.{bindings_of, record_of}
@@ -41,12 +42,12 @@ fit_records [] h = tt
 fit_records (x ∷ items) h = (record { key = omega (arith, h.0.key); value = omega (arith, h.0.value) }, fit_records items h.1)
 
 -- the entries of a set are short enough
-pub entries_short : (set : List Element) (is_set : IsObjectSet set) (tree : Tree) (items : List Item) → AreEntriesOf set tree (bindings_in items) → AllByRecursion Fits (map record_of items)
-entries_short set is_set tree items are = fit_records items (entries_fit set is_set tree (bindings_in items) are)
+pub entries_short : (set : List Element) (is_set : IsObjectSet set) (tree : Tree) (items : List Item) → AreEntriesOf Whole set tree (bindings_in items) → AllByRecursion Fits (map record_of items)
+entries_short set is_set tree items are = fit_records items (entries_fit Whole set is_set tree (bindings_in items) are)
 
 -- the entries of some objects and of more are those of all
-pub more_members : (objects more : List Element) (tree : Tree) (old new : List Binding) → ((b : Binding) → Contains old b ↔ IsEntryOfSome objects tree b) → ((b : Binding) → Contains new b ↔ IsEntryOfSome more tree b)
-    → (b : Binding) → Contains (old ++ new) b ↔ IsEntryOfSome (objects ++ more) tree b
+pub more_members : (objects more : List Element) (tree : Tree) (old new : List Binding) → ((b : Binding) → Contains old b ↔ IsEntryOfSome Whole objects tree b) → ((b : Binding) → Contains new b ↔ IsEntryOfSome Whole more tree b)
+    → (b : Binding) → Contains (old ++ new) b ↔ IsEntryOfSome Whole (objects ++ more) tree b
 more_members objects more tree old new h k b = (
   (λ c.
       elim (Contains-append_cases old new b c) [
@@ -70,11 +71,11 @@ on_ok (Ok x) f h = f h
 on_ok (Err e) f h = tt
 
 -- what a sorter holds with the entries of one set more
-pub joined : (objects set : List Element) (tree : Tree) (records : List Entry) (items : List Item) → ((b : Binding) → Contains (bindings_of records) b ↔ IsEntryOfSome objects tree b) → AreEntriesOf set tree (bindings_in items)
-    → (b : Binding) → Contains (bindings_of (records ++ map record_of items)) b ↔ IsEntryOfSome (objects ++ set) tree b
+pub joined : (objects set : List Element) (tree : Tree) (records : List Entry) (items : List Item) → ((b : Binding) → Contains (bindings_of records) b ↔ IsEntryOfSome Whole objects tree b) → AreEntriesOf Whole set tree (bindings_in items)
+    → (b : Binding) → Contains (bindings_of (records ++ map record_of items)) b ↔ IsEntryOfSome Whole (objects ++ set) tree b
 joined objects set tree records items members are b =
-    let added : (x : Binding) → Contains (bindings_of (map record_of items)) x ↔ IsEntryOfSome set tree x = λ x. subst (λ (bs : List Binding). Contains bs x ↔ IsEntryOfSome set tree x) (sym (same_bindings items)) (are.members x) in
-    subst (λ (bs : List Binding). Contains bs b ↔ IsEntryOfSome (objects ++ set) tree b) (sym (bindings-append records (map record_of items)))
+    let added : (x : Binding) → Contains (bindings_of (map record_of items)) x ↔ IsEntryOfSome Whole set tree x = λ x. subst (λ (bs : List Binding). Contains bs x ↔ IsEntryOfSome Whole set tree x) (sym (same_bindings items)) (are.members x) in
+    subst (λ (bs : List Binding). Contains bs b ↔ IsEntryOfSome Whole (objects ++ set) tree b) (sym (bindings-append records (map record_of items)))
     (more_members objects set tree (bindings_of records) (bindings_of (map record_of items)) members added b)
 
 pub on_both : {T E A B C : Type 0} (r : Result T E) → (A → B → C) → OnOk r A → OnOk r B → OnOk r C

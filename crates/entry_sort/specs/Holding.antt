@@ -3,6 +3,7 @@
 use Rattle.std.specs.List.{Contains}
 use Rattle.std.specs.Prelude.{◌↔◌, ℕ, List, map}
 use Rattle.osm_keys.specs.Entries.{IsEntryOfSome}
+use Rattle.osm_keys.specs.Grains.{Whole}
 use Rattle.osm_model.specs.Elements.{Element}
 use Rattle.tree_node.specs.Nodes.{Binding}
 use Rattle.tree_node.specs.declared.tree.Tree.{Tree}
@@ -25,7 +26,7 @@ module _ {S : Type 0} (runs : S → List (List ℕ)) (in_hand : S → List ℕ) 
   pub record HoldsTree (sorter : Sorter S) (objects : List Element) (tree : Tree) : Type 0 where
     pub records : List Entry
     pub held : Holds runs in_hand sorter records
-    pub members : (b : Binding) → Contains (bindings_of records) b ↔ IsEntryOfSome objects tree b
+    pub members : (b : Binding) → Contains (bindings_of records) b ↔ IsEntryOfSome Whole objects tree b
 
   -- it holds the entries of all four trees of these objects
   abbrev pub HoldsEntries : EntrySorter S → List Element → Type 0

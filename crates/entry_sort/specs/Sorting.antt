@@ -7,6 +7,7 @@ use Rattle.opl_codec.specs.declared.cause.OplCause.TheVariants as causes
 use Rattle.tree_node.specs.Nodes.{Binding}
 use Rattle.tree_node.specs.declared.tree.Tree.{Tree}
 use Rattle.osm_keys.specs.Entries.{AreEntriesOf}
+use Rattle.osm_keys.specs.Grains.{Whole}
 use Rattle.osm_keys.specs.Publications.{HasTooMany}
 use Rattle.entry_sort.specs.declared.entry_fault.EntryFault.{EntryFault}
 use Rattle.entry_sort.specs.declared.entry_fault.EntryFault.TheVariants.{Load, TooMany, Memory, Device}
@@ -19,7 +20,7 @@ IsFresh taken = (tree : Tree) → taken tree ≡ []
 pub record TakesFile (taken : Tree → List Binding) (file : List ℕ) : Type 0 where
   pub set : List Element
   pub holds : HoldsSet file set
-  pub entries : (tree : Tree) → AreEntriesOf set tree (taken tree)
+  pub entries : (tree : Tree) → AreEntriesOf Whole set tree (taken tree)
 
 -- the fault lies outside the file that holds this set, or a tree of the set has too many entries
 abbrev pub IsOutside : List Element → EntryFault → Type 0

@@ -2,6 +2,7 @@
 
 ghost use Rattle.std.specs.Prelude.{◌≡◌, ◌≢◌, ◌++◌, Err, IfErr, IfOk, IsOk, List, OnOk, [], false, true};
 ghost use Rattle.osm_keys.specs.Entries.{AreEntriesOf};
+ghost use Rattle.osm_keys.specs.Grains.{Whole};
 ghost use Rattle.osm_keys.specs.Publications.{HasTooMany};
 ghost use Rattle.osm_model.specs.Elements.{Element};
 ghost use Rattle.osm_model.specs.Sets.{IsObjectSet};
@@ -78,7 +79,7 @@ impl<S: RunStore> EntrySorter<S> {
     pub fn give<E: EntrySink>(self, alloc: Global, sink: &mut E) -> Result<(), SinkFault>
         ensures taken { S.is_true ≡ true → ((tree : TreeWord) → E.taken sink.old tree ≡ []) →
             (set : List Element) → IsObjectSet set → HoldsEntries S.runs S.in_hand self set →
-            OnOk result ((tree : TreeWord) → AreEntriesOf set tree (E.taken sink.new tree)) }
+            OnOk result ((tree : TreeWord) → AreEntriesOf Whole set tree (E.taken sink.new tree)) }
         ensures same { OnOk result (E.is_same sink.old sink.new) }
         ensures many { S.is_true ≡ true → ((tree : TreeWord) → E.taken sink.old tree ≡ []) →
             (set : List Element) → IsObjectSet set → HoldsEntries S.runs S.in_hand self set →

@@ -2,6 +2,7 @@
 
 ghost use Rattle.std.specs.Prelude.{◌≡◌, ◌≢◌, ◌<◌, ◌≤◌, ◌++◌, ◌^◌, Err, IfErr, List, None, OnOk, Option, Some, [], false, length, true, ℕ};
 ghost use Rattle.osm_keys.specs.Entries.{AreEntriesOf};
+ghost use Rattle.osm_keys.specs.Grains.{Whole};
 ghost use Rattle.osm_keys.specs.Publications.{HasTooMany};
 ghost use Rattle.osm_model.specs.Elements.{Element};
 ghost use Rattle.osm_model.specs.Sets.{IsObjectSet};
@@ -28,7 +29,7 @@ pub(crate) fn give_tree<S: RunStore, E: EntrySink>(
 ) -> Result<(), SinkFault>
     ensures taken { S.is_true ≡ true → (set : List Element) → IsObjectSet set →
         HoldsTree S.runs S.in_hand sorter set tree → E.taken sink.old tree ≡ [] →
-        OnOk result (AreEntriesOf set tree (E.taken sink.new tree)) }
+        OnOk result (AreEntriesOf Whole set tree (E.taken sink.new tree)) }
     ensures others { OnOk result ((other : TreeWord) → other ≢ tree →
         E.taken sink.new other ≡ E.taken sink.old other) }
     ensures same { OnOk result (E.is_same sink.old sink.new) }

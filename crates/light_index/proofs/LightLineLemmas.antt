@@ -3,7 +3,7 @@ use Rattle.std.proofs.Common.{◌≡◌, inl, inr, ℕ, zero, suc, ◌+◌, ◌-
 use Rattle.std.specs.List.{Contains}
 use Rattle.std.proofs.lemmas.List.{length-append, map-append, take_at, take_more}
 use Rattle.light_index.specs.LightLines.{AreLinesOf}
-use Rattle.light_keys.specs.Lines.{digest_of_line}
+use Rattle.osm_keys.specs.Lines.{digest_of_line}
 use Rattle.opl_codec.specs.Text.{text_of as line_of}
 use Rattle.osm_keys.proofs.shared.Members.{first_or_in_rest, here, in_rest, none}
 use Rattle.osm_model.specs.CanonicalLine.{canonical_line}

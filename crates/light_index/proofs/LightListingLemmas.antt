@@ -3,12 +3,13 @@ use Rattle.std.proofs.Common.{◌≡◌, ◌↔◌, ℕ, ℤ, ◌+◌, ◌<◌, 
 use Rattle.std.specs.List.{Contains, flat_map}
 use Rattle.std.proofs.lemmas.Grind.{flat_map-append}
 use Rattle.std.proofs.lemmas.List.{length-append, map-append, take_at, drop_at, take_more}
-use Rattle.light_index.specs.LightEntries.{IsLightEntryOf, IsLightEntryOfSome}
 use Rattle.light_index.specs.LightEntryLists.{cut, packed_len}
 use Rattle.light_index.specs.declared.light_entry_list.LightSpan.{LightSpan}
 use Rattle.light_index.specs.internal.LightListing.{Gains, back_of, backs_of, cells_of, light_entries_from, member_back, node_back, span_of, tag_of, text_of}
-use Rattle.light_keys.specs.FineKeys.{fine_cell_key, fine_cell_value, fine_column, fine_corner, fine_row}
-use Rattle.light_keys.specs.Lines.{digest_of_line}
+use Rattle.osm_keys.specs.Entries.{IsEntryOf, IsEntryOfSome}
+use Rattle.osm_keys.specs.FineKeys.{fine_cell_key, fine_cell_value, fine_column, fine_corner, fine_row}
+use Rattle.osm_keys.specs.Grains.{Lines}
+use Rattle.osm_keys.specs.Lines.{digest_of_line}
 use Rattle.osm_index.specs.EntryLists.{IsKeyed}
 use Rattle.osm_keys.proofs.shared.Members.{from_all, from_map, here, in_all, in_map, none, first_or_in_rest}
 use Rattle.osm_keys.proofs.shared.OneKey.{one_referrer, one_tagged}
@@ -73,7 +74,7 @@ backs_are (bodies.Rel members) r line b = (
       subst (λ (x : Binding). Contains (map (member_back r line) members) x) (sym (h.2 ∙ ap (λ (t : Ref). back_of r line t) found.2)) (in_map (member_back r line) members found.0 found.1)),
 )
 
-entries_are : (tree : Tree) (o : Element) (b : Binding) → Contains (light_entries_from tree o) b ↔ IsLightEntryOf o tree b
+entries_are : (tree : Tree) (o : Element) (b : Binding) → Contains (light_entries_from tree o) b ↔ IsEntryOf Lines o tree b
 entries_are Objects o b = ((λ h. one_only _ b h), (λ h. the_one _ b h))
 entries_are Tags o b = (
   (λ h. let found = from_map (tag_of (reference o) (digest_of_line o)) o.tags b h in (found.0, found.1, found.2)),
@@ -83,7 +84,7 @@ entries_are Cells o b = cells_are o.body o.id (digest_of_line o) b
 entries_are Backs o b = backs_are o.body (reference o) (digest_of_line o) b
 
 -- the entries of all objects
-pub members_are : (objects : List Element) (tree : Tree) (b : Binding) → Contains (flat_map (light_entries_from tree) objects) b ↔ IsLightEntryOfSome objects tree b
+pub members_are : (objects : List Element) (tree : Tree) (b : Binding) → Contains (flat_map (light_entries_from tree) objects) b ↔ IsEntryOfSome Lines objects tree b
 members_are objects tree b = (
   (λ h. let found = from_all (light_entries_from tree) objects b h in (found.0, found.1, (entries_are tree found.0 b).0 found.2)),
   (λ h. in_all (light_entries_from tree) objects h.0 b h.1 ((entries_are tree h.0 b).1 h.2)),
@@ -106,7 +107,7 @@ module _ (objects : List Element) (set : IsObjectSet objects) where
   one_line : (o o' : Element) → Contains objects o → Contains objects o' → reference o ≡ reference o' → digest_of_line o ≡ digest_of_line o'
   one_line o o' there there' refs = ap digest_of_line (one_object objects o o' set there there' refs)
 
-  entries_keyed : (tree : Tree) (a b : Binding) → IsLightEntryOfSome objects tree a → IsLightEntryOfSome objects tree b → a.key ≡ b.key → a ≡ b
+  entries_keyed : (tree : Tree) (a b : Binding) → IsEntryOfSome Lines objects tree a → IsEntryOfSome Lines objects tree b → a.key ≡ b.key → a ≡ b
   entries_keyed Objects a b (o, there, is) (o', there', is') e =
       let keys = sym (ap (λ (x : Binding). x.key) is) ∙ e ∙ ap (λ (x : Binding). x.key) is' in
       let refs = same_ref (reference o) (reference o') (is_element objects o set there).in_range (is_element objects o' set there').in_range keys in

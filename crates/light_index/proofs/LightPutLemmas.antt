@@ -3,13 +3,14 @@ use Rattle.std.proofs.Common.{◌≡◌, ◌≢◌, ◌↔◌, ◌⊎◌, inl, i
 use Rattle.std.proofs.lemmas.List.{map-append, take-append-drop}
 use Rattle.light_index.proofs.LightLineLemmas.{line_of_some, some_among}
 use Rattle.light_index.proofs.shared.OneLightPublication.{light_manifest_same}
-use Rattle.light_index.specs.LightEntries.{AreLightEntriesOf}
 use Rattle.light_index.specs.LightHoldings.{AreLightHeld}
 use Rattle.light_index.specs.LightLines.{AreLinesOf}
 use Rattle.light_index.specs.LightPublications.{IsLightNodeIn, IsLightPublicationOf, IsLightTreeNode, IsLineIn, LightPublication, light_manifest_of, light_top_in, light_tree_in}
 use Rattle.light_index.specs.internal.LightPutting.{EndedAll, HasPut}
 use Rattle.light_keys.specs.LightManifests.{light_manifest}
 use Rattle.osm_index.specs.internal.Putting.{AreAllFour, Ended}
+use Rattle.osm_keys.specs.Entries.{AreEntriesOf}
+use Rattle.osm_keys.specs.Grains.{Lines}
 use Rattle.osm_keys.specs.Manifests.{top_among}
 use Rattle.osm_model.specs.CanonicalLine.{canonical_line}
 use Rattle.osm_model.specs.Elements.{Element}
@@ -48,7 +49,7 @@ module _ (objects : List Element) (sequence : ℕ) (fits : sequence < 2 ^ 64) (s
   abbrev the : LightPublication
   the = record { objects = objects; sequence = sequence; entries = by_tree h1.entries h2.entries h3.entries h4.entries }
 
-  lists : (tree : Tree) → AreLightEntriesOf objects tree (the.entries tree)
+  lists : (tree : Tree) → AreEntriesOf Lines objects tree (the.entries tree)
   lists Objects = h1.are
   lists Tags = h2.are
   lists Cells = h3.are

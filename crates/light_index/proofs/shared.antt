@@ -1,5 +1,4 @@
 -- Lemmas for the crates above.
-pub mod LightEntriesFit
 pub mod OneLightPublication
 pub mod LightEntryBytes
 pub mod LightNodeSorts

@@ -1,4 +1,3 @@
-pub mod LightEntries
 pub mod LightPublications
 pub mod LightLines
 pub mod LightEntryLists

@@ -3,7 +3,6 @@
 -- Source: this project.
 use Rattle.std.specs.List.{Contains}
 use Rattle.std.specs.Prelude.{◌≡◌, ℕ, ◌<◌, ◌≤◌, ◌^◌, List, length, ◌⊎◌}
-use Rattle.light_index.specs.LightEntries.{AreLightEntriesOf}
 use Rattle.light_keys.specs.LightManifests.{light_manifest}
 use Rattle.osm_model.specs.CanonicalLine.{canonical_line}
 use Rattle.osm_model.specs.Elements.{Element}
@@ -15,6 +14,8 @@ use Rattle.tree_node.specs.Trees.{IsNodeOf, levels, top_of}
 use Rattle.tree_node.specs.Trees as trees
 use Rattle.tree_node.specs.declared.limits.TheConstants.{ENTRY_LIMIT}
 use Rattle.tree_node.specs.declared.tree.Tree.{Tree}
+use Rattle.osm_keys.specs.Entries.{AreEntriesOf}
+use Rattle.osm_keys.specs.Grains.{Lines}
 
 -- a set of objects, a sequence, and the entries of each tree
 pub record LightPublication : Type 0 where
@@ -25,7 +26,7 @@ pub record LightPublication : Type 0 where
 -- the objects are a set, each tree has its entries, few enough, and the sequence fits its eight bytes
 pub record IsLightPublication (p : LightPublication) : Type 0 where
   pub set : IsObjectSet p.objects
-  pub lists : (tree : Tree) → AreLightEntriesOf p.objects tree (p.entries tree)
+  pub lists : (tree : Tree) → AreEntriesOf Lines p.objects tree (p.entries tree)
   pub few : (tree : Tree) → length (p.entries tree) ≤ ENTRY_LIMIT
   pub sequence : p.sequence < 2 ^ 64
 
@@ -37,7 +38,7 @@ pub record IsLightPublicationOf (objects : List Element) (sequence : ℕ) (p : L
 
 -- a tree of these objects has more entries than a tree may have
 abbrev pub HasTooManyLight : List Element → Type 0
-HasTooManyLight objects = (tree : Tree) × (entries : List Binding) × AreLightEntriesOf objects tree entries × (ENTRY_LIMIT < length entries)
+HasTooManyLight objects = (tree : Tree) × (entries : List Binding) × AreEntriesOf Lines objects tree entries × (ENTRY_LIMIT < length entries)
 
 -- a tree, its levels from the leaves on
 abbrev pub light_tree_in : LightPublication → Tree → List (List Node)

@@ -5,10 +5,11 @@ ghost use Rattle.std.specs.Prelude.{◌≡◌, ◌↔◌, ◌^◌, [], ◌∷◌
 ghost use Rattle.osm_model.specs.Limits.{IsShort};
 ghost use Rattle.tree_node.specs.Nodes.{Binding};
 ghost use Rattle.osm_index.specs.EntryLists.{IsKeyed};
-ghost use Rattle.light_index.specs.LightEntries.{IsLightEntryOfSome};
 ghost use Rattle.light_index.specs.LightLines.{AreLinesOf};
 ghost use Rattle.light_index.specs.internal.LightListing.{Gains, back_of, backs_of, cells_of, light_entries_from, member_back, node_back, tag_of};
-ghost use Rattle.light_keys.specs.Lines.{digest_of_line};
+ghost use Rattle.osm_keys.specs.Entries.{IsEntryOfSome};
+ghost use Rattle.osm_keys.specs.Grains.{Lines};
+ghost use Rattle.osm_keys.specs.Lines.{digest_of_line};
 
 use crate::light_entry_list::{LightEntryList, LightSpan};
 use light_keys::{fine_cell_key, fine_cell_value, line_value};
@@ -31,7 +32,7 @@ pub fn light_entries_of(
     requires { AreLinesOf set.now lines.now }
     // These are the entries, some perhaps more than once,
     ensures members { IfOk result (λ list.
-        (b : Binding) → Contains list b ↔ IsLightEntryOfSome set.now tree b) }
+        (b : Binding) → Contains list b ↔ IsEntryOfSome Lines set.now tree b) }
     // and no two have one key but equal ones.
     ensures keyed { IfOk result (λ list. IsKeyed list) }
 {

@@ -7,7 +7,7 @@ use Rattle.tree_node.specs.Nodes.{AreBytes}
 use Rattle.tree_node.proofs.shared.FieldLemmas.{AreBytes-drop, wide16, wide32}
 use Rattle.osm_keys.specs.Keys.{id_bytes}
 use Rattle.osm_keys.proofs.ReadLemmas.{again, front_fits, front_long, whole}
-use Rattle.light_keys.specs.FineKeys.{IsFineCell, fine_cell_value, fine_corner, latitude_bytes}
+use Rattle.osm_keys.specs.FineKeys.{IsFineCell, fine_cell_value, fine_corner, latitude_bytes}
 use borrow.Rule.Slice.PartMut.{put_mid}
 
 -- ---- keys

@@ -6,7 +6,7 @@ use Rattle.std.specs.Option.{option_to_list}
 use Rattle.osm_model.specs.Boxes.{ExactBox}
 use Rattle.tree_walk.specs.Ranges.{Range}
 use Rattle.osm_keys.proofs.Ids.{same_number}
-use Rattle.light_keys.specs.FineRanges.{AreFineColumns, AreFineRanges, AreFineRows, fine_range}
+use Rattle.osm_keys.specs.FineRanges.{AreFineColumns, AreFineRanges, AreFineRows, fine_range}
 use Rattle.light_keys.specs.declared.whole_edges.WholeEdges.{WholeEdges}
 use Rattle.light_keys.specs.internal.FineCells.{AreWholeEdges}
 

@@ -1,7 +1,7 @@
 //! Columns of fine cells that lie side by side.
 
 ghost use Rattle.std.specs.Prelude.{◌≤◌};
-ghost use Rattle.light_keys.specs.FineKeys.{last_fine_column};
+ghost use Rattle.osm_keys.specs.FineKeys.{last_fine_column};
 
 /// The columns from the first to the last.
 #[derive(Clone, Copy)]

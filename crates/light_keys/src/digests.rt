@@ -1,7 +1,7 @@
 //! The digest under which an object's line is a node.
 
 ghost use Rattle.std.specs.Prelude.{◌≡◌, IfOk};
-ghost use Rattle.light_keys.specs.Lines.{digest_of_line};
+ghost use Rattle.osm_keys.specs.Lines.{digest_of_line};
 
 use opl_codec::{OutMode, write_object};
 use osm_model::Object;

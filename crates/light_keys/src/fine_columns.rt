@@ -2,7 +2,7 @@
 
 ghost use Rattle.std.specs.Prelude.{◌≡◌, [], ◌∷◌, ◌⊎◌, ◌≤◌, ◌≤ℤ◌, ◌<ℤ◌, unsigned_abs};
 ghost use Rattle.osm_model.specs.Degrees.{limit};
-ghost use Rattle.light_keys.specs.FineKeys.{fine_column, last_fine_column};
+ghost use Rattle.osm_keys.specs.FineKeys.{fine_column, last_fine_column};
 
 use crate::column_span::ColumnSpan;
 use crate::fine_grid::{LAST_COLUMN, fine_column};

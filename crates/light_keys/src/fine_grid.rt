@@ -3,7 +3,7 @@
 ghost use Rattle.std.specs.Prelude.{◌≡◌, ◌≤◌, ◌*◌, unsigned_abs};
 ghost use Rattle.osm_keys.specs.Keys.{above};
 ghost use Rattle.osm_model.specs.Degrees.{limit};
-ghost use Rattle.light_keys.specs.FineKeys.{fine_column, fine_row, last_fine_column, last_fine_row};
+ghost use Rattle.osm_keys.specs.FineKeys.{fine_column, fine_row, last_fine_column, last_fine_row};
 
 use osm_model::Axis;
 

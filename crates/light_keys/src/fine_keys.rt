@@ -2,7 +2,7 @@
 
 ghost use Rattle.std.specs.Prelude.{◌≡◌, ◌++◌};
 ghost use Rattle.osm_keys.specs.Keys.{id_bytes};
-ghost use Rattle.light_keys.specs.FineKeys.{fine_cell_key, fine_cell_value, fine_corner};
+ghost use Rattle.osm_keys.specs.FineKeys.{fine_cell_key, fine_cell_value, fine_corner};
 
 use crate::fine_grid::{fine_column, fine_row};
 use osm_keys::reference_key;
@@ -33,7 +33,7 @@ pub fn fine_cell_value(latitude: i32, line: &Digest) -> [u8; 36]
 }
 
 /// A row and a column in six bytes.
-#[tactic(auto, unfolding(crate::specs::FineKeys::fine_corner))]
+#[tactic(auto, unfolding(osm_keys::specs::FineKeys::fine_corner))]
 pub(crate) fn fine_corner(row: u16, column: u32) -> [u8; 6]
     ensures { result ≡ fine_corner row column }
 {

@@ -2,7 +2,7 @@
 
 ghost use Rattle.std.specs.Prelude.{◌≡◌};
 ghost use Rattle.tree_walk.specs.Ranges.{IsIn, range_of};
-ghost use Rattle.light_keys.specs.FineRanges.{fine_range};
+ghost use Rattle.osm_keys.specs.FineRanges.{fine_range};
 
 use crate::column_span::ColumnSpan;
 use crate::fine_keys::fine_corner;

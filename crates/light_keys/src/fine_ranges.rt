@@ -1,7 +1,7 @@
 //! The ranges in which the nodes of a box are found among fine cells.
 
 ghost use Rattle.std.specs.Iterator.{YieldsFirst, item_count};
-ghost use Rattle.light_keys.specs.FineRanges.{AreFineRanges};
+ghost use Rattle.osm_keys.specs.FineRanges.{AreFineRanges};
 
 use crate::fine_columns::FineColumns;
 use crate::fine_range::FineRange;
@@ -32,7 +32,7 @@ impl Model for FineRanges {
     ghost use Rattle.std.specs.Option.{option_to_list};
     ghost use Rattle.std.specs.Prelude.{◌-◌, ◌++◌, List, map};
     ghost use Rattle.tree_walk.specs.Ranges.{Range};
-    ghost use Rattle.light_keys.specs.FineRanges.{fine_range};
+    ghost use Rattle.osm_keys.specs.FineRanges.{fine_range};
     ghost use Rattle.light_keys.specs.internal.FineCells.{columns_in};
 
     ghost Value = { List Range };

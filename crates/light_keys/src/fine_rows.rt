@@ -14,7 +14,7 @@ pub(crate) struct FineRows {
 }
 
 impl FineRows {
-    ghost use Rattle.light_keys.specs.FineRanges.{AreFineRows};
+    ghost use Rattle.osm_keys.specs.FineRanges.{AreFineRows};
     ghost use Rattle.light_keys.specs.internal.FineCells.{rows_in};
 
     /// The rows from one latitude to another, in 1e-7 degree: none where the first is above the second.

@@ -10,8 +10,8 @@ ghost use Rattle.osm_model.specs.Places.{IsPlace, Place};
 ghost use Rattle.tree_node.specs.Order.{IsBelow};
 ghost use Rattle.tree_node.specs.declared.tree.Tree.{Tree};
 ghost use Rattle.tree_walk.specs.Ranges.{IsIn, Range};
-ghost use Rattle.light_keys.specs.FineKeys.{IsBefore, SaysFineCell, fine_cell_key, fine_cell_value, fine_row};
-ghost use Rattle.light_keys.specs.FineRanges.{AreFineRanges};
+ghost use Rattle.osm_keys.specs.FineKeys.{IsBefore, SaysFineCell, fine_cell_key, fine_cell_value, fine_row};
+ghost use Rattle.osm_keys.specs.FineRanges.{AreFineRanges};
 ghost use Rattle.light_keys.specs.LightManifests.{light_manifest};
 
 /// The law of entries of fine cells: what is written is read back.

@@ -4,7 +4,7 @@ ghost use Rattle.std.specs.Prelude.{◌≡◌, ◌≢◌, ◌≤◌, ◌++◌, �
 ghost use Rattle.osm_keys.specs.Keys.{id_bytes};
 ghost use Rattle.osm_model.specs.Degrees.{limit};
 ghost use Rattle.osm_model.specs.Places.{Place};
-ghost use Rattle.light_keys.specs.FineKeys.{IsFineCell, SaysFineCell, fine_cell_value, fine_corner};
+ghost use Rattle.osm_keys.specs.FineKeys.{IsFineCell, SaysFineCell, fine_cell_value, fine_corner};
 
 use crate::fine_grid::{LAST_COLUMN, LAST_ROW, longitude};
 use osm_model::{Axis, Coord};

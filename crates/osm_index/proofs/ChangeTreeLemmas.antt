@@ -21,6 +21,7 @@ use Rattle.tree_node.specs.declared.digest.Digest.{Digest}
 use Rattle.tree_node.specs.declared.tree.Tree.{Tree}
 use Rattle.tree_node.specs.declared.tree.Tree.TheVariants.{Objects, Tags, Cells, Backs}
 use Rattle.osm_index.specs.Applying.{edition_after}
+use Rattle.osm_keys.specs.Grains.{Whole}
 use Rattle.osm_keys.specs.Manifests.{top_among}
 use Rattle.osm_keys.specs.Publications.{IsPublicationOf, Publication, shape_in, top_in, tree_in}
 use Rattle.osm_index.specs.declared.changed_trees.ChangedTrees.{ChangedTrees}
@@ -28,7 +29,7 @@ use Rattle.osm_index.specs.internal.ChangedTrees.{AreChangedTrees, AreHeldTrees,
 use Rattle.osm_index.specs.internal.Putting.{IsTreeNode}
 use Rattle.osm_keys.proofs.shared.EntriesFit.{has_tree}
 use Rattle.osm_index.proofs.TreeNodes.{is_tree, one_tree, second_shape, shape_after}
-use Rattle.osm_keys.proofs.shared.OnePublication.{lists_have_trees}
+use Rattle.osm_keys.proofs.shared.OnePublication.{lists_have_trees, lists_in}
 
 -- ---- one tree
 
@@ -46,7 +47,7 @@ module _ (p : Publication) (removed puts set : List Element) (tree : Tree) (top 
     is_top = h.holds.is_top ∙ ap (λ (s : Shape). digest (top_of (levels s (number_of tree) (p.entries tree)))) shape_is;
     holds = λ x n. h.holds.nodes x (own_node x n);
     rising = is.rising;
-    changed_has = has_tree set h.changed_set.set tree (changed_entries (p.entries tree) changes) is.are is.few;
+    changed_has = has_tree Whole set h.changed_set.set tree (changed_entries (p.entries tree) changes) is.are is.few;
   }
 
   -- no two of its nodes have one digest, where no two of all trees have
@@ -112,7 +113,7 @@ module _ (p : Publication) (removed puts set : List Element) (tops : List Digest
   new = record { objects = set; edition = edition_after p.edition; entries = news }
 
   pub published : IsPublicationOf set (edition_after p.edition) new
-  published = record { published = record { set = h.changed_set.set; lists = λ tree. (are tree).are; few = λ tree. (are tree).few }; same_objects = refl; same_edition = refl }
+  published = record { published = record { set = h.changed_set.set; lists = λ tree. lists_in (edition_after p.edition) set tree (news tree) (are tree).are; few = λ tree. (are tree).few }; same_objects = refl; same_edition = refl }
 
   old_shape : shape_in p ≡ Two
   old_shape = second_shape p.edition h.second

@@ -14,7 +14,9 @@ use Rattle.tree_node.specs.Nodes.{AreRisingFrom, Binding, keys_of}
 use Rattle.tree_node.specs.Order.{IsBelow}
 use Rattle.tree_node.specs.declared.limits.TheConstants.{ENTRY_LIMIT}
 use Rattle.tree_node.specs.declared.tree.Tree.{Tree}
+use Rattle.osm_keys.proofs.shared.OnePublication.{whole_lists}
 use Rattle.osm_keys.specs.Entries.{AreEntriesOf, IsEntryOfSome}
+use Rattle.osm_keys.specs.Grains.{Whole}
 use Rattle.osm_keys.specs.Publications.{HasTooMany, Publication}
 use Rattle.osm_index.specs.internal.ChangedTrees.{HoldsChanging, IsChangedSet}
 use Rattle.osm_index.specs.internal.EntryChanges.{PutsNew, TakesOld, TurnEntries, put_of, taken}
@@ -177,7 +179,7 @@ count_turned xs a b are cs turn =
 -- ---- the entries of a changed set
 
 module _ (objects removed puts set : List Element) (is_set : IsObjectSet objects) (changed_set : IsChangedSet objects removed puts set) (tree : Tree) (xs a b : List Binding)
-    (are : AreEntriesOf objects tree xs) (old : AreEntriesOf removed tree a) (new : AreEntriesOf puts tree b) where
+    (are : AreEntriesOf Whole objects tree xs) (old : AreEntriesOf Whole removed tree a) (new : AreEntriesOf Whole puts tree b) where
   pub are_turned : AreTurned xs a b
   are_turned = record {
     all = are.rising;
@@ -192,7 +194,7 @@ module _ (objects removed puts set : List Element) (is_set : IsObjectSet objects
         from_list a n ((old.members n).1 (x, changed_set.apart o x there there_too owner, e_too));
   }
 
-  pub changed_set_entries : (cs : List (Change Binding)) → TurnEntries a b cs → AreEntriesOf set tree (changed_entries xs cs)
+  pub changed_set_entries : (cs : List (Change Binding)) → TurnEntries a b cs → AreEntriesOf Whole set tree (changed_entries xs cs)
   changed_set_entries cs turn = record {
     rising = turned_rise xs a b are_turned cs turn;
     members = λ n. (
@@ -218,17 +220,17 @@ module _ (objects removed puts set : List Element) (is_set : IsObjectSet objects
 
 -- ---- entries that were sorted
 
-pub sorted_are : (objects : List Element) (tree : Tree) (list entries : List Binding) → ((b : Binding) → Contains list b ↔ IsEntryOfSome objects tree b) → IsKeyed list → Rise entries
-    → (IsKeyed list → (b : Binding) → Contains entries b ↔ Contains list b) → AreEntriesOf objects tree entries
+pub sorted_are : (objects : List Element) (tree : Tree) (list entries : List Binding) → ((b : Binding) → Contains list b ↔ IsEntryOfSome Whole objects tree b) → IsKeyed list → Rise entries
+    → (IsKeyed list → (b : Binding) → Contains entries b ↔ Contains list b) → AreEntriesOf Whole objects tree entries
 sorted_are objects tree list entries members keyed rising sorted = record {
   rising = rising;
   members = λ b. let x = sorted keyed b in let y = members b in ((λ h. y.0 (x.0 h)), (λ h. x.1 (y.1 h)));
 }
 
 module _ (p : Publication) (removed puts set : List Element) (tree : Tree) (top : List ℕ) (held : List ℕ → Type 0) (h : HoldsChanging p removed puts set tree top held)
-    (a b : List Binding) (old : AreEntriesOf removed tree a) (new : AreEntriesOf puts tree b) where
+    (a b : List Binding) (old : AreEntriesOf Whole removed tree a) (new : AreEntriesOf Whole puts tree b) where
   turned : AreTurned (p.entries tree) a b
-  turned = are_turned p.objects removed puts set h.holds.published.set h.changed_set tree (p.entries tree) a b (h.holds.published.lists tree) old new
+  turned = are_turned p.objects removed puts set h.holds.published.set h.changed_set tree (p.entries tree) a b (whole_lists p h.holds.published tree) old new
 
   -- the old ones are some of all
   pub turned_few : length a ≤ length (p.entries tree)
@@ -242,8 +244,8 @@ module _ (p : Publication) (removed puts set : List Element) (tree : Tree) (top 
   pub turned_count : (cs : List (Change Binding)) → TurnEntries a b cs → length (changed_entries (p.entries tree) cs) + length a ≡ length (p.entries tree) + length b
   turned_count cs turn = count_turned (p.entries tree) a b turned cs turn
 
-  pub turned_are : (cs : List (Change Binding)) → TurnEntries a b cs → AreEntriesOf set tree (changed_entries (p.entries tree) cs)
-  turned_are cs turn = changed_set_entries p.objects removed puts set h.holds.published.set h.changed_set tree (p.entries tree) a b (h.holds.published.lists tree) old new cs turn
+  pub turned_are : (cs : List (Change Binding)) → TurnEntries a b cs → AreEntriesOf Whole set tree (changed_entries (p.entries tree) cs)
+  turned_are cs turn = changed_set_entries p.objects removed puts set h.holds.published.set h.changed_set tree (p.entries tree) a b (whole_lists p h.holds.published tree) old new cs turn
 
   pub turned_many : ENTRY_LIMIT < (length (p.entries tree) - length a) + length b → HasTooMany set
   turned_many many =

@@ -16,6 +16,7 @@ use Rattle.tree_walk.specs.Choices.{AreThose}
 use Rattle.tree_walk.specs.Ranges.{Range}
 use Rattle.tree_walk.specs.Walks.{IsEntryIn}
 use Rattle.osm_keys.specs.Entries.{object_entry}
+use Rattle.osm_keys.specs.Grains.{Whole}
 use Rattle.osm_keys.specs.Publications.{IsPublication, Publication}
 use Rattle.osm_keys.specs.Ranges.{under_all}
 use Rattle.osm_index.specs.internal.HeldTrees.{AreObjectEntries}
@@ -27,13 +28,13 @@ use Rattle.osm_index.proofs.shared.ChangeLaws.{one_set}
 pub object_in : (objects : List Element) (entries : List Item) (i : ℕ) (x : Item) → AreObjectEntries objects (bindings_of entries) → i < length entries → (o : Element) × IsElement o × (i < length objects) × (get_or objects i o ≡ o) × ((get_or entries i x).value.now ≡ canonical_line o)
 object_in objects entries i x are inside = at objects entries i inside are.entries_are (λ k o lt. are.elements k o lt)
   where
-    at : (objects : List Element) (entries : List Item) (i : ℕ) → i < length entries → bindings_of entries ≡ map object_entry objects → ((k : ℕ) (o : Element) → k < length objects → IsElement (get_or objects k o))
+    at : (objects : List Element) (entries : List Item) (i : ℕ) → i < length entries → bindings_of entries ≡ map (object_entry Whole) objects → ((k : ℕ) (o : Element) → k < length objects → IsElement (get_or objects k o))
         → (o : Element) × IsElement o × (i < length objects) × (get_or objects i o ≡ o) × ((get_or entries i x).value.now ≡ canonical_line o)
     at objects [] i inside e each = absurd (omega (arith, inside))
     at [] (y ∷ entries) i inside e each = absurd Prim.cc
-    at (o ∷ objects) (y ∷ entries) zero inside e each = (let first : binding_of y ≡ object_entry o = Prim.cc in (o, each 0 o (omega arith), omega arith, refl, ap (λ (b : Binding). b.value) first))
+    at (o ∷ objects) (y ∷ entries) zero inside e each = (let first : binding_of y ≡ object_entry Whole o = Prim.cc in (o, each 0 o (omega arith), omega arith, refl, ap (λ (b : Binding). b.value) first))
     at (o ∷ objects) (y ∷ entries) (suc i) inside e each =
-        let rest : bindings_of entries ≡ map object_entry objects = Prim.cc in
+        let rest : bindings_of entries ≡ map (object_entry Whole) objects = Prim.cc in
         let found = at objects entries i (omega (arith, inside)) rest (λ k p lt. each (suc k) p (omega (arith, lt))) in
         (found.0, found.1, omega (arith, found.2), found.3, found.4)
 

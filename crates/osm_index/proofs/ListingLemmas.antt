@@ -17,11 +17,12 @@ use Rattle.osm_model.specs.declared.out_mode.OutMode.TheVariants.{Meta}
 use Rattle.tree_node.specs.Nodes.{Binding}
 use Rattle.tree_node.specs.declared.tree.Tree.{Tree}
 use Rattle.tree_node.specs.declared.tree.Tree.TheVariants.{Objects, Tags, Cells, Backs}
-use Rattle.osm_keys.specs.Entries.{IsEntryOf, IsEntryOfSome, back_entry, cell_entry}
+use Rattle.osm_keys.specs.Entries.{IsEntryOf, IsEntryOfSome}
+use Rattle.osm_keys.specs.Grains.{Whole}
 use Rattle.osm_keys.specs.Keys.{cell_bytes, column, id_bytes, ref_key, row}
 use Rattle.osm_index.specs.declared.entry_list.Span.{Span}
 use Rattle.osm_index.specs.EntryLists.{IsKeyed, cut, packed_len}
-use Rattle.osm_index.specs.internal.Listing.{Gains, backs_of, cells_of, entries_from, member_back, node_back, span_of, tag_of, text_of}
+use Rattle.osm_index.specs.internal.Listing.{Gains, back_of, backs_of, cell_of, cells_of, entries_from, member_back, node_back, span_of, tag_of, text_of}
 use Rattle.osm_keys.proofs.shared.Members.{from_all, from_map, here, in_all, in_map, none, first_or_in_rest}
 use Rattle.osm_keys.proofs.shared.OneObject.{is_element, one_object, ref_of_parts, same_id, same_ref}
 
@@ -53,27 +54,27 @@ one_only a b h = elim (first_or_in_rest a [] b h) [ inl e ↦ sym e | inr r ↦ 
 the_one : (a b : Binding) → b ≡ a → Contains (a ∷ []) b
 the_one a b e = subst (λ (x : Binding). Contains (a ∷ []) x) (sym e) (here a [])
 
-cells_are : (body : Body) (id : ℤ) (b : Binding) → Contains (cells_of body id) b ↔ ((place : Place) × (body ≡ bodies.Node place) × (b ≡ cell_entry place id))
-cells_are (bodies.Node place) id b = ((λ h. (place, refl, one_only (cell_entry place id) b h)), (λ h. the_one (cell_entry place id) b (let same : place ≡ h.0 = cc (h.1) in h.2 ∙ ap (λ (p : Place). cell_entry p id) (sym same))))
+cells_are : (body : Body) (id : ℤ) (b : Binding) → Contains (cells_of body id) b ↔ ((place : Place) × (body ≡ bodies.Node place) × (b ≡ cell_of place id))
+cells_are (bodies.Node place) id b = ((λ h. (place, refl, one_only (cell_of place id) b h)), (λ h. the_one (cell_of place id) b (let same : place ≡ h.0 = cc (h.1) in h.2 ∙ ap (λ (p : Place). cell_of p id) (sym same))))
 cells_are (bodies.Way nodes) id b = ((λ h. absurd (none b h)), (λ h. absurd (cc (h.1))))
 cells_are (bodies.Rel members) id b = ((λ h. absurd (none b h)), (λ h. absurd (cc (h.1))))
 
-backs_are : (body : Body) (r : Ref) (b : Binding) → Contains (backs_of body r) b ↔ ((target : Ref) × BodyLists body target × (b ≡ back_entry target r))
+backs_are : (body : Body) (r : Ref) (b : Binding) → Contains (backs_of body r) b ↔ ((target : Ref) × BodyLists body target × (b ≡ back_of target r))
 backs_are (bodies.Node place) r b = ((λ h. absurd (none b h)), (λ h. absurd (h.1)))
 backs_are (bodies.Way nodes) r b = (
   (λ h. let found = from_map (node_back r) nodes b h in (record { kind = kinds.Node; id = found.0 }, (refl, found.1), found.2)),
   (λ h.
       let same : h.0 ≡ record { kind = kinds.Node; id = h.0.id } = ref_of_parts h.0 (record { kind = kinds.Node; id = h.0.id }) h.1.0 refl in
-      subst (λ (x : Binding). Contains (map (node_back r) nodes) x) (sym (h.2 ∙ ap (λ (t : Ref). back_entry t r) same)) (in_map (node_back r) nodes h.0.id h.1.1)),
+      subst (λ (x : Binding). Contains (map (node_back r) nodes) x) (sym (h.2 ∙ ap (λ (t : Ref). back_of t r) same)) (in_map (node_back r) nodes h.0.id h.1.1)),
 )
 backs_are (bodies.Rel members) r b = (
   (λ h. let found = from_map (member_back r) members b h in (found.0.target, in_map (λ (member : Member). member.target) members found.0 found.1, found.2)),
   (λ h.
       let found = from_map (λ (member : Member). member.target) members h.0 h.1 in
-      subst (λ (x : Binding). Contains (map (member_back r) members) x) (sym (h.2 ∙ ap (λ (t : Ref). back_entry t r) found.2)) (in_map (member_back r) members found.0 found.1)),
+      subst (λ (x : Binding). Contains (map (member_back r) members) x) (sym (h.2 ∙ ap (λ (t : Ref). back_of t r) found.2)) (in_map (member_back r) members found.0 found.1)),
 )
 
-entries_are : (tree : Tree) (o : Element) (b : Binding) → Contains (entries_from tree o) b ↔ IsEntryOf o tree b
+entries_are : (tree : Tree) (o : Element) (b : Binding) → Contains (entries_from tree o) b ↔ IsEntryOf Whole o tree b
 entries_are Objects o b = ((λ h. one_only _ b h), (λ h. the_one _ b h))
 entries_are Tags o b = (
   (λ h. let found = from_map (tag_of (reference o)) o.tags b h in (found.0, found.1, found.2)),
@@ -83,7 +84,7 @@ entries_are Cells o b = cells_are o.body o.id b
 entries_are Backs o b = backs_are o.body (reference o) b
 
 -- the entries of all objects
-pub members_are : (objects : List Element) (tree : Tree) (b : Binding) → Contains (flat_map (entries_from tree) objects) b ↔ IsEntryOfSome objects tree b
+pub members_are : (objects : List Element) (tree : Tree) (b : Binding) → Contains (flat_map (entries_from tree) objects) b ↔ IsEntryOfSome Whole objects tree b
 members_are objects tree b = (
   (λ h. let found = from_all (entries_from tree) objects b h in (found.0, found.1, (entries_are tree found.0 b).0 found.2)),
   (λ h. in_all (entries_from tree) objects h.0 b h.1 ((entries_are tree h.0 b).1 h.2)),
@@ -96,7 +97,7 @@ unfolding cell_bytes
 ids_of_cells a b c d y z e = ap (λ (bytes : List ℕ). drop 4 bytes) e
 
 module _ (objects : List Element) (set : IsObjectSet objects) where
-  entries_keyed : (tree : Tree) (a b : Binding) → IsEntryOfSome objects tree a → IsEntryOfSome objects tree b → a.key ≡ b.key → a ≡ b
+  entries_keyed : (tree : Tree) (a b : Binding) → IsEntryOfSome Whole objects tree a → IsEntryOfSome Whole objects tree b → a.key ≡ b.key → a ≡ b
   entries_keyed Objects a b h k e =
       let refs : ref_key (reference h.0) ≡ ref_key (reference k.0) = sym (ap (λ (x : Binding). x.key) h.2) ∙ e ∙ ap (λ (x : Binding). x.key) k.2 in
       let one = one_object objects h.0 k.0 set h.1 k.1 (same_ref (reference h.0) (reference k.0) (is_element objects h.0 set h.1).in_range (is_element objects k.0 set k.1).in_range refs) in

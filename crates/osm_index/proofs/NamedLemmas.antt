@@ -24,6 +24,8 @@ use Rattle.tree_node.specs.declared.tree.Tree.TheVariants.{Objects}
 use Rattle.tree_walk.specs.Choices.{AreThose}
 use Rattle.tree_walk.specs.Walks.{IsEntryIn}
 use Rattle.osm_keys.specs.Entries.{object_entry}
+use Rattle.osm_keys.proofs.shared.OnePublication.{whole_grain}
+use Rattle.osm_keys.specs.Grains.{Grain, Whole}
 use Rattle.osm_keys.specs.Keys.{ref_key}
 use Rattle.osm_keys.specs.Publications.{IsPublication, Publication}
 use Rattle.osm_keys.proofs.shared.Members.{first_or_in_rest, here, in_rest, none}
@@ -51,12 +53,13 @@ never_none result o is e = let same : None ≡ Some (Put o) = subst (λ (s : Res
 -- ---- what the range of one object finds
 
 abbrev pub IsFoundAs : List Element → Ref → List Binding → Type 0
-IsFoundAs objects r found = (b : Binding) → Contains found b ↔ ((o : Element) × (object_at objects r ≡ Some o) × (b ≡ object_entry o))
+IsFoundAs objects r found = (b : Binding) → Contains found b ↔ ((o : Element) × (object_at objects r ≡ Some o) × (b ≡ object_entry Whole o))
 
 -- what is in the range of its key
 pub found_as : (p : Publication) → IsPublication p → (r : Ref) → FitsSigned w64 r.id → (key : List ℕ) → key ≡ ref_key r → (found : List Binding) → AreThose (IsEntryIn (record { lo = key; hi = key; under = false })) (p.entries Objects) found → IsFoundAs p.objects r found
 found_as p is r fits key same found those =
-    object_is_found p is r fits found (subst (λ (k : List ℕ). AreThose (IsEntryIn (record { lo = k; hi = k; under = false })) (p.entries Objects) found) same those)
+    subst (λ (grain : Grain). (b : Binding) → Contains found b ↔ ((o : Element) × (object_at p.objects r ≡ Some o) × (b ≡ object_entry grain o))) (whole_grain p.edition)
+    (object_is_found p is r fits found (subst (λ (k : List ℕ). AreThose (IsEntryIn (record { lo = k; hi = k; under = false })) (p.entries Objects) found) same those))
 
 -- nothing, where the object isn't there
 pub none_found : (objects : List Element) (r : Ref) (found : List Item) → slice_get found 0 ≡ None → IsFoundAs objects r (bindings_of found) → object_at objects r ≡ None
@@ -65,7 +68,7 @@ none_found objects r [] nowhere is = at (object_at objects r) refl
   where
     at : (o : Option Element) → object_at objects r ≡ o → object_at objects r ≡ None
     at None e = e
-    at (Some o) e = absurd (none (object_entry o) ((is (object_entry o)).1 (o, e, refl)))
+    at (Some o) e = absurd (none (object_entry Whole o) ((is (object_entry Whole o)).1 (o, e, refl)))
 
 -- else its entry, first
 pub first_found : (objects : List Element) (r : Ref) (found : List Item) (item : Item) → slice_get found 0 ≡ Some item → IsObjectSet objects → IsFoundAs objects r (bindings_of found)

@@ -14,8 +14,10 @@ use Rattle.tree_node.specs.declared.stock.Stock.{Stock}
 use Rattle.tree_node.specs.declared.limits.TheConstants.{ENTRY_LIMIT}
 use Rattle.tree_node.specs.declared.tree.Tree.{Tree}
 use Rattle.tree_node.specs.declared.tree.Tree.TheVariants.{Objects, Tags, Cells, Backs}
+use Rattle.osm_keys.proofs.shared.OnePublication.{lists_in}
 use Rattle.osm_keys.specs.Entries.{AreEntriesOf}
 use Rattle.osm_index.specs.Holdings.{AreHeld}
+use Rattle.osm_keys.specs.Grains.{Whole}
 use Rattle.osm_keys.specs.Manifests.{manifest, top_among}
 use Rattle.osm_keys.specs.Publications.{IsNodeIn, IsPublicationOf, Publication, manifest_of, shape_of, top_in, tree_in}
 use Rattle.osm_keys.specs.declared.edition.Edition.{Edition}
@@ -39,7 +41,7 @@ module _ (objects : List Element) (edition : Edition) (set : IsObjectSet objects
   abbrev the : Publication
   the = record { objects = objects; edition = edition; entries = by_tree h1.entries h2.entries h3.entries h4.entries }
 
-  lists : (tree : Tree) → AreEntriesOf objects tree (the.entries tree)
+  lists : (tree : Tree) → AreEntriesOf Whole objects tree (the.entries tree)
   lists Objects = h1.are
   lists Tags = h2.are
   lists Cells = h3.are
@@ -52,7 +54,7 @@ module _ (objects : List Element) (edition : Edition) (set : IsObjectSet objects
   few Backs = h4.few
 
   published : IsPublicationOf objects edition the
-  published = record { published = record { set = set; lists = lists; few = few }; same_objects = refl; same_edition = refl }
+  published = record { published = record { set = set; lists = λ tree. lists_in edition objects tree (the.entries tree) (lists tree); few = few }; same_objects = refl; same_edition = refl }
 
   in1 : (x : List ℕ) → s1 x → IsTreeNode the x
   in1 x h = elim (h1.only x h) [ inl k ↦ absurd (none x k) | inr n ↦ (Objects, n) ]

@@ -16,6 +16,7 @@ use Rattle.tree_node.specs.declared.tree.Tree.TheVariants.{Objects}
 use Rattle.tree_node.proofs.shared.StockLaws.{recorder_used}
 use Rattle.osm_keys.specs.Entries.{object_entry}
 use Rattle.osm_index.specs.Holdings.{AreHeld}
+use Rattle.osm_keys.specs.Grains.{Whole}
 use Rattle.osm_keys.specs.Manifests.{top_among}
 use Rattle.osm_keys.specs.Publications.{IsNodeIn, IsPublication, Publication}
 use Rattle.osm_keys.specs.declared.edition.Edition.{Edition}
@@ -25,7 +26,7 @@ use Rattle.osm_index.specs.internal.Putting.{IsTreeNode}
 use Rattle.osm_index.specs.internal.Updates.{IsUnder}
 use Rattle.osm_index.proofs.SetLemmas.{RiseAt, set_rises}
 use Rattle.osm_keys.proofs.shared.Members.{from_map, in_map}
-use Rattle.osm_keys.proofs.shared.OnePublication.{one_entry_list}
+use Rattle.osm_keys.proofs.shared.OnePublication.{one_entry_list, whole_lists}
 
 -- ---- a shelf over its stock, and what a call leaves
 
@@ -54,20 +55,20 @@ trees_free p free a b is_a is_b same = free a b (inr is_a) (inr is_b) same
 
 -- ---- the number of objects
 
-entries_rise : (low : Option (List ℕ)) (objects : List Element) → RiseAt low objects → AreRisingFrom low (keys_of (map object_entry objects))
+entries_rise : (low : Option (List ℕ)) (objects : List Element) → RiseAt low objects → AreRisingFrom low (keys_of (map (object_entry Whole) objects))
 entries_rise low [] rise = tt
-entries_rise low (o ∷ objects) rise = (rise.0, entries_rise (Some (object_entry o).key) objects rise.1)
+entries_rise low (o ∷ objects) rise = (rise.0, entries_rise (Some (object_entry Whole o).key) objects rise.1)
 
 -- the entries of the object tree, one for each object
-pub objects_listed : (p : Publication) → IsPublication p → p.entries Objects ≡ map object_entry p.objects
+pub objects_listed : (p : Publication) → IsPublication p → p.entries Objects ≡ map (object_entry Whole) p.objects
 objects_listed p is =
-    one_entry_list p.objects Objects (p.entries Objects) (map object_entry p.objects) (is.lists Objects) (record {
+    one_entry_list Whole p.objects Objects (p.entries Objects) (map (object_entry Whole) p.objects) (whole_lists p is Objects) (record {
       rising = entries_rise None p.objects (set_rises p.objects is.set);
       members = λ b. (
-        (λ h. let found = from_map object_entry p.objects b h in (found.0, found.1, found.2)),
-        (λ (o, there, e). subst (λ (x : _). Contains (map object_entry p.objects) x) (sym e) (in_map object_entry p.objects o there)),
+        (λ h. let found = from_map (object_entry Whole) p.objects b h in (found.0, found.1, found.2)),
+        (λ (o, there, e). subst (λ (x : _). Contains (map (object_entry Whole) p.objects) x) (sym e) (in_map (object_entry Whole) p.objects o there)),
       );
     })
 
 pub objects_counted : (p : Publication) → IsPublication p → length (p.entries Objects) ≡ length p.objects
-objects_counted p is = ap length (objects_listed p is) ∙ length-map p.objects object_entry
+objects_counted p is = ap length (objects_listed p is) ∙ length-map p.objects (object_entry Whole)

@@ -5,9 +5,10 @@ ghost use Rattle.std.specs.Prelude.{◌≡◌, ◌↔◌, [], ◌∷◌, ◌++�
 ghost use Rattle.osm_model.specs.Elements.{reference};
 ghost use Rattle.osm_model.specs.Limits.{IsShort};
 ghost use Rattle.tree_node.specs.Nodes.{Binding};
-ghost use Rattle.osm_keys.specs.Entries.{IsEntryOfSome, back_entry, cell_entry, object_entry, tag_entry};
+ghost use Rattle.osm_keys.specs.Entries.{IsEntryOfSome, object_entry};
+ghost use Rattle.osm_keys.specs.Grains.{Whole};
 ghost use Rattle.osm_index.specs.EntryLists.{IsKeyed};
-ghost use Rattle.osm_index.specs.internal.Listing.{Gains, backs_of, cells_of, entries_from, member_back, node_back, tag_of};
+ghost use Rattle.osm_index.specs.internal.Listing.{Gains, back_of, backs_of, cells_of, entries_from, member_back, node_back, tag_of};
 
 use crate::entry_list::{EntryList, Span};
 use opl_codec::{OutMode, write_object};
@@ -23,7 +24,7 @@ use tree_node::Tree;
 pub fn entries_of(alloc: Global, set: &ObjectSet, tree: Tree) -> Result<EntryList, AllocError>
     // These are the entries, some perhaps more than once,
     ensures members { IfOk result (λ list.
-        (b : Binding) → Contains list b ↔ IsEntryOfSome set.now tree b) }
+        (b : Binding) → Contains list b ↔ IsEntryOfSome Whole set.now tree b) }
     // and no two have one key but equal ones.
     ensures keyed { IfOk result (λ list. IsKeyed list) }
 {
@@ -74,7 +75,7 @@ fn append_object(
     spans: &mut Vec<Span>,
 ) -> Result<(), AllocError>
     ensures { OnOk result (Gains bytes.old.items bytes.new.items spans.old.items spans.new.items
-        (object_entry object.now ∷ [])) }
+        (object_entry Whole object.now ∷ [])) }
 {
     bytes.extend_from_slice(&reference_key(object.reference()))?;
     let start = bytes.len();
@@ -209,7 +210,7 @@ fn append_back(
     spans: &mut Vec<Span>,
 ) -> Result<(), AllocError>
     ensures { OnOk result (Gains bytes.old.items bytes.new.items spans.old.items spans.new.items
-        (back_entry target referrer ∷ [])) }
+        (back_of target referrer ∷ [])) }
 {
     bytes.extend_from_slice(&back_key(target, referrer))?;
     spans.push(Span { key: 18, value: 0 })?;

@@ -1,6 +1,11 @@
+pub mod Grains
 pub mod Keys
+pub mod FineKeys
+pub mod Lines
 pub mod Entries
 pub mod Ranges
+pub mod FineRanges
+pub mod BoxRanges
 pub mod Manifests
 pub mod Publications
 pub mod internal

@@ -11,6 +11,7 @@ use Rattle.tree_node.specs.Trees as trees
 use Rattle.tree_node.specs.declared.limits.TheConstants.{ENTRY_LIMIT}
 use Rattle.tree_node.specs.declared.tree.Tree.{Tree}
 use Rattle.osm_keys.specs.Entries.{AreEntriesOf}
+use Rattle.osm_keys.specs.Grains.{Whole, grain_of}
 use Rattle.osm_keys.specs.Manifests.{manifest}
 use Rattle.osm_keys.specs.declared.edition.Edition.{Edition}
 use Rattle.osm_keys.specs.declared.edition.Edition.TheVariants as editions
@@ -24,7 +25,7 @@ pub record Publication : Type 0 where
 -- the objects are a set, and each tree has its entries, few enough
 pub record IsPublication (p : Publication) : Type 0 where
   pub set : IsObjectSet p.objects
-  pub lists : (tree : Tree) → AreEntriesOf p.objects tree (p.entries tree)
+  pub lists : (tree : Tree) → AreEntriesOf (grain_of p.edition) p.objects tree (p.entries tree)
   pub few : (tree : Tree) → length (p.entries tree) ≤ ENTRY_LIMIT
 
 -- a publication of these objects in this edition
@@ -33,9 +34,9 @@ pub record IsPublicationOf (objects : List Element) (edition : Edition) (p : Pub
   pub same_objects : p.objects ≡ objects
   pub same_edition : p.edition ≡ edition
 
--- a tree of these objects has more entries than a tree may have
+-- a tree of these objects has more entries than a tree may have, as many wherever the lines are
 abbrev pub HasTooMany : List Element → Type 0
-HasTooMany objects = (tree : Tree) × (entries : List Binding) × AreEntriesOf objects tree entries × (ENTRY_LIMIT < length entries)
+HasTooMany objects = (tree : Tree) × (entries : List Binding) × AreEntriesOf Whole objects tree entries × (ENTRY_LIMIT < length entries)
 
 -- the shape of an edition's trees
 abbrev pub shape_of : Edition → trees.Shape

@@ -25,7 +25,8 @@ ghost use Rattle.tree_node.specs.declared.tree.Tree.{Tree};
 ghost use Rattle.tree_walk.specs.Choices.{AreThose};
 ghost use Rattle.tree_walk.specs.Ranges.{IsIn, Range};
 ghost use Rattle.tree_walk.specs.Walks.{IsEntryIn, IsTopOf};
-ghost use Rattle.osm_keys.specs.Entries.{back_entry, cell_entry, object_entry, tag_entry};
+ghost use Rattle.osm_keys.specs.Entries.{back_entry, cell_entry, object_entry, placed_key, tag_entry};
+ghost use Rattle.osm_keys.specs.Grains.{grain_of};
 ghost use Rattle.osm_keys.specs.Keys.{cell_key, column, ref_key};
 ghost use Rattle.osm_keys.specs.Manifests.{HasSequence, HaveWidth, manifest};
 ghost use Rattle.osm_keys.specs.Publications.{HasTooMany, IsPublication, IsPublicationOf, Publication, root_of, shape_in, shape_of, top_in};
@@ -71,7 +72,7 @@ pub fn object_law()
         → (found : List Binding)
         → AreThose (IsEntryIn (object_range r)) (p.entries Objects) found
         → (b : Binding) → Contains found b ↔ ((o : Element) × (object_at p.objects r ≡ Some o)
-        × (b ≡ object_entry o)) }
+        × (b ≡ object_entry (grain_of p.edition) o)) }
 {}
 
 /// The law of the range of a kind: it finds just the entries of the objects of that kind, by rising id.
@@ -79,7 +80,7 @@ pub fn kind_law()
     ensures found { (p : Publication) → IsPublication p → (kind : Kind) (found : List Binding)
         → AreThose (IsEntryIn (kind_range kind)) (p.entries Objects) found
         → (b : Binding) → Contains found b ↔ ((o : Element) × Contains p.objects o
-        × (kind_of o.body ≡ kind) × (b ≡ object_entry o)) }
+        × (kind_of o.body ≡ kind) × (b ≡ object_entry (grain_of p.edition) o)) }
     // Their keys rise, and so do their references (`key_order_law`).
     ensures rising { (p : Publication) → IsPublication p → (kind : Kind) (found : List Binding)
         → AreThose (IsEntryIn (kind_range kind)) (p.entries Objects) found
@@ -95,7 +96,7 @@ pub fn tag_law()
         → AreThose (IsEntryIn (tag_range key value kind)) (p.entries Tags) found
         → (b : Binding) → Contains found b ↔ ((o : Element) × Contains p.objects o
         × IsKindOf kind (reference o)
-        × HasTag o key value × (b ≡ tag_entry key value (reference o))) }
+        × HasTag o key value × (b ≡ tag_entry (grain_of p.edition) key value o)) }
 {}
 
 /// The law of the range of a tag's key: it finds just the objects that have a tag with that key. The key
@@ -106,7 +107,7 @@ pub fn tag_key_law()
         → AreThose (IsEntryIn (tag_key_range key)) (p.entries Tags) found
         → (b : Binding) → Contains found b ↔ ((o : Element) × (value : List ℕ)
         × Contains p.objects o × HasNoNul value
-        × HasTag o key value × (b ≡ tag_entry key value (reference o))) }
+        × HasTag o key value × (b ≡ tag_entry (grain_of p.edition) key value o)) }
 {}
 
 /// The law of the ranges of a box's cells. They find nodes of the map: all that the box holds, and perhaps
@@ -120,8 +121,9 @@ pub fn cell_law()
         → AreThose (IsEntryIn range) (p.entries Cells) found
         → (entry : Binding) → Contains found entry ↔ ((o : Element) × (place : Place)
         × Contains p.objects o
-        × (o.body ≡ bodies.Node place) × IsIn range (cell_key place o.id)
-        × (entry ≡ cell_entry place o.id)) }
+        × (o.body ≡ bodies.Node place)
+        × IsIn range (placed_key (grain_of p.edition) place o.id)
+        × (entry ≡ cell_entry (grain_of p.edition) place o)) }
     // A node that the box holds is in one of its ranges,
     ensures held { (p : Publication) → IsPublication p → (b : ExactBox) (ranges : List Range)
         → AreCellRanges b ranges
@@ -148,7 +150,7 @@ pub fn back_law()
         → AreThose (IsEntryIn (back_range target kind)) (p.entries Backs) found
         → (b : Binding) → Contains found b ↔ ((o : Element) × Contains p.objects o
         × IsKindOf kind (reference o)
-        × BodyLists o.body target × (b ≡ back_entry target (reference o))) }
+        × BodyLists o.body target × (b ≡ back_entry (grain_of p.edition) target o)) }
 {}
 
 /// The law of entries: their keys and their values are bytes. So what walks and counts ask of a tree holds

@@ -4,6 +4,7 @@ use Rattle.std.specs.Prelude.{IfErr, IfOk, IfSome, slice_index}
 use Rattle.entry_sort.specs.Sorting.{TakesFile, Explains as entry_explains}
 use Rattle.entry_sort.specs.declared.entry_fault.EntryFault.{EntryFault}
 use Rattle.entry_sort.specs.declared.entry_fault.EntryFault.TheVariants as entries
+use Rattle.osm_keys.proofs.shared.OnePublication.{lists_in}
 use Rattle.osm_keys.specs.Publications.{IsNodeIn, IsPublication, Publication, shape_of, top_in, tree_in}
 use Rattle.osm_model.specs.Elements.{Element}
 use Rattle.pack_assembly.specs.Levels.{AreLevelsOf}
@@ -36,7 +37,7 @@ module _ (p : Publication) (edition : Edition) (shape : Shape) (taken : Tree →
   pub published : {S M : Type 0} (builder : TreesBuilder S M) → HasEntries builder shape taken → IsPublication p
   published builder has = record {
     set = sorted.set;
-    lists = sorted.lists;
+    lists = λ tree. lists_in p.edition p.objects tree (p.entries tree) (sorted.lists tree);
     few = λ tree. subst (λ (es : List Binding). length es ≤ ENTRY_LIMIT) (sorted.entries_are tree) (has tree).1.have_tree.few;
   }
 

@@ -32,10 +32,12 @@ use Rattle.tree_walk.specs.Ranges.{IsAtMost, IsIn, Range}
 use Rattle.tree_walk.specs.Walks.{IsEntryIn}
 use Rattle.tree_walk.proofs.shared.FoundLemmas.{those_among, those_rise}
 use Rattle.tree_walk.proofs.shared.KeyLemmas.{at_most_trans, below_at_most, below_or, between_begins}
+use Rattle.osm_keys.specs.BoxRanges.{AreBoxRanges}
 use Rattle.osm_keys.specs.Entries.{cell_entry, object_entry, tag_entry}
+use Rattle.osm_keys.specs.Grains.{grain_of}
 use Rattle.osm_keys.specs.Keys.{ref_key}
 use Rattle.osm_keys.specs.Publications.{IsPublication, Publication}
-use Rattle.osm_keys.specs.Ranges.{AreCellRanges, kind_range, tag_key_range, tag_range}
+use Rattle.osm_keys.specs.Ranges.{kind_range, tag_key_range, tag_range}
 use Rattle.osm_keys.proofs.shared.Members.{first_or_in_rest, here, in_map, in_rest, none}
 use Rattle.osm_keys.proofs.shared.OneObject.{is_element, one_object, same_ref}
 use Rattle.osm_keys.proofs.shared.RangeLaws.{kind_found, tag_found, tag_key_found}
@@ -364,7 +366,7 @@ module _ (p : Publication) (is : IsPublication p) where
 
   -- an entry of an object of the kind
   abbrev pub IsObjectOf : Kind → Binding → Type 0
-  IsObjectOf kind b = (o : Element) × Contains p.objects o × (kind_of o.body ≡ kind) × (b ≡ object_entry o)
+  IsObjectOf kind b = (o : Element) × Contains p.objects o × (kind_of o.body ≡ kind) × (b ≡ object_entry (grain_of p.edition) o)
 
   pub kind_many : (kind : Kind) (n : ℕ) → IsCountOf p (OfKind kind) n → HasSoMany p Objects (IsObjectOf kind) n
   kind_many kind n counted = one_many Objects (kind_range kind) n (IsObjectOf kind) counted (λ found those b has. (kind_found p is kind found those b).0 has)
@@ -391,7 +393,7 @@ module _ (p : Publication) (is : IsPublication p) where
 
   pub kinds_fit : (kinds : List Kind) (k n : ℕ) → length kinds ≤ k → HasSoMany p Objects (From (take k kinds) IsObjectOf) n → IsWithinSet (From kinds (IsOfThisKind p.objects)) n
   kinds_fit kinds k n past so set set_of =
-      many_fit Objects (From (take k kinds) IsObjectOf) n (λ o b. b ≡ object_entry o) set so
+      many_fit Objects (From (take k kinds) IsObjectOf) n (λ o b. b ≡ object_entry (grain_of p.edition) o) set so
       (λ b among (kind, has, (o, there, of, e)).
       (o, there, e, (set_of.members (reference o)).1 (kind, subst (λ (l : List Kind). Contains l kind) (take_all k kinds past) has, (o, there, refl, of))))
       (λ o b c there e f. e ∙ sym f)
@@ -400,7 +402,7 @@ module _ (p : Publication) (is : IsPublication p) where
 
   pub tag_fits : (key value : List ℕ) (kind : Option Kind) (n : ℕ) → HasNoNul key → HasNoNul value → IsCountOf p (WithTag key value kind) n → IsWithinSet (IsRefOf p.objects (Answers (WithTag key value kind))) n
   tag_fits key value kind n hk hv counted set set_of =
-      many_fit Tags (λ b. (o : Element) × Contains p.objects o × Answers (WithTag key value kind) o × (b ≡ tag_entry key value (reference o))) n (λ o b. b ≡ tag_entry key value (reference o)) set
+      many_fit Tags (λ b. (o : Element) × Contains p.objects o × Answers (WithTag key value kind) o × (b ≡ tag_entry (grain_of p.edition) key value o)) n (λ o b. b ≡ tag_entry (grain_of p.edition) key value o) set
       (one_many Tags (tag_range key value kind) n _ counted (λ found those b has. let (o, there, of_kind, of, e) = (tag_found p is key value hk hv kind found those b).0 has in (o, there, (of_kind, of), e)))
       (λ b among (o, there, of, e). (o, there, e, (set_of.members (reference o)).1 (o, there, refl, of)))
       (λ o b c there e f. e ∙ sym f)
@@ -425,14 +427,14 @@ module _ (p : Publication) (is : IsPublication p) where
 
   pub key_fits : (key : List ℕ) (n : ℕ) → HasNoNul key → IsCountOf p (WithKey key) n → IsWithinSet (IsRefOf p.objects (λ o. HasKeyOf o key)) n
   key_fits key n hk counted set set_of =
-      let Has : Binding → Type 0 = λ b. (o : Element) × (value : List ℕ) × Contains p.objects o × HasTag o key value × (b ≡ tag_entry key value (reference o)) in
-      many_fit Tags Has n (λ o b. (value : List ℕ) × HasTag o key value × (b ≡ tag_entry key value (reference o))) set
+      let Has : Binding → Type 0 = λ b. (o : Element) × (value : List ℕ) × Contains p.objects o × HasTag o key value × (b ≡ tag_entry (grain_of p.edition) key value o) in
+      many_fit Tags Has n (λ o b. (value : List ℕ) × HasTag o key value × (b ≡ tag_entry (grain_of p.edition) key value o)) set
       (one_many Tags (tag_key_range key) n Has counted (λ found those b has. let (o, value, there, clean, of, e) = (tag_key_found p is key hk found those b).0 has in (o, value, there, of, e)))
       (λ b among (o, value, there, of, e). (o, there, (value, of, e), (set_of.members (reference o)).1 (o, there, refl, (of.0, of.1, of.2))))
       (λ o b c there (value, (s, hs, ks, vs), e) (other, (t, ht, kt, vt), f).
       let same = one_tag o.tags (is_element p.objects o is.set there).rising s t hs ht (ks ∙ sym kt) in
       let values : value ≡ other = sym vs ∙ ap (λ (x : Tag). x.value) same ∙ vt in
-      e ∙ ap (λ (v : List ℕ). tag_entry key v (reference o)) values ∙ sym f)
+      e ∙ ap (λ (v : List ℕ). tag_entry (grain_of p.edition) key v o) values ∙ sym f)
 
   -- ---- cells
 
@@ -465,16 +467,16 @@ module _ (p : Publication) (is : IsPublication p) where
       (λ b inside. ((range, among, inside), up_to range b.key inside))
       le
 
-  pub ranges_fit : (area : ExactBox) (ranges : List Range) (end : Option (List ℕ)) (n : ℕ) → AreCellRanges area ranges → HasInRanges p Cells ranges end n → IsWithinSet (IsRefOf p.objects (IsInCellsOf area)) n
+  pub ranges_fit : (area : ExactBox) (ranges : List Range) (end : Option (List ℕ)) (n : ℕ) → AreBoxRanges (grain_of p.edition) area ranges → HasInRanges p Cells ranges end n → IsWithinSet (IsRefOf p.objects (IsInCellsOf (grain_of p.edition) area)) n
   ranges_fit area ranges end n are so set set_of =
-      many_fit Cells (λ b. From ranges IsEntryIn b × IsUpTo end b.key) n (λ o b. (place : Place) × (o.body ≡ bodies.Node place) × (b ≡ cell_entry place o.id)) set so
+      many_fit Cells (λ b. From ranges IsEntryIn b × IsUpTo end b.key) n (λ o b. (place : Place) × (o.body ≡ bodies.Node place) × (b ≡ cell_entry (grain_of p.edition) place o)) set so
       (λ b among ((range, has, inside), up).
       let (o, there, (place, node, e)) = ((is.lists Cells).members b).0 among in
       (o, there, (place, node, e), (set_of.members (reference o)).1 (o, there, refl, (ranges, are, (range, place, has, node, subst (λ (c : Binding). IsIn range c.key) e inside)))))
       (λ o b c there (place, node, e) (other, node_too, f).
       let both : bodies.Node place ≡ bodies.Node other = sym node ∙ node_too in
       let same : place ≡ other = cc in
-      e ∙ ap (λ (x : Place). cell_entry x o.id) same ∙ sym f)
+      e ∙ ap (λ (x : Place). cell_entry (grain_of p.edition) x o) same ∙ sym f)
 
 -- ---- parts of works
 

@@ -21,9 +21,10 @@ use Rattle.tree_walk.specs.Choices.{AreThose}
 use Rattle.tree_walk.specs.Ranges.{Range}
 use Rattle.tree_walk.specs.Walks.{IsEntryIn}
 use Rattle.osm_keys.specs.Entries.{cell_entry}
+use Rattle.osm_keys.specs.Grains.{Whole, grain_of}
 use Rattle.osm_keys.specs.Publications.{IsPublication, Publication}
 use Rattle.osm_keys.specs.Ranges.{AreCellRanges, AreColumns, AreRows, cell_range}
-use Rattle.osm_keys.proofs.shared.CellLaws.{cell_found, cell_held}
+use Rattle.osm_keys.proofs.shared.CellLaws.{cell_held}
 use Rattle.osm_keys.proofs.shared.Members.{from_map, in_map}
 use Rattle.osm_keys.proofs.shared.OneKey.{one_location}
 use Rattle.osm_keys.proofs.shared.OneObject.{is_element}
@@ -43,6 +44,7 @@ use Rattle.ql_eval.specs.internal.Entries.{AreMisread, IsSaid, Places, PlacesIn,
 use Rattle.ql_eval.proofs.EachLemmas.{needed_as}
 use Rattle.ql_eval.proofs.EntryLemmas.{entry_names, never_unread, set_as}
 use Rattle.ql_eval.proofs.NameLemmas.{one_placed}
+use Rattle.ql_eval.proofs.WholeLemmas.{boxed, celled, from_whole, to_whole, whole_cell_found}
 
 place_of : (body : Body) (place : Place) → BodyInRange body → body ≡ bodies.Node place → IsPlace place
 place_of body place fits e = subst BodyInRange e fits
@@ -118,7 +120,7 @@ module _ (p : Publication) (is : IsPublication p) (area : ExactBox) where
   pub said_in_box : (range : Range) (found : List Binding) → AreThose (IsEntryIn range) (p.entries Cells) found → (r : Ref) → IsSaid (SaysIn area) found r ↔ IsFoundIn p.objects area range r
   said_in_box range found those r = (
     (λ (b, among, (place, says, holds), fits).
-        let (o, at, there, node, inside, entry) = (cell_found p is range found those b).0 among in
+        let (o, at, there, node, inside, entry) = (whole_cell_found p is found range those b).0 among in
         let element = is_element p.objects o is.set there in
         let (named_place, said) = entry_names o Cells b element (at, node, entry) in
         let same = one_placed b (reference o) r named_place place element.in_range fits said says in
@@ -127,11 +129,11 @@ module _ (p : Publication) (is : IsPublication p) (area : ExactBox) where
         (o, at, there, same, node, inside, subst (Holds area) (sym other) holds)),
     (λ (o, place, there, named, node, inside, holds).
         let element = is_element p.objects o is.set there in
-        let entry = cell_entry place o.id in
+        let entry = cell_entry Whole place o in
         let (named_place, said) = entry_names o Cells entry element (place, node, refl) in
         let same = one_location place named_place (place_of o.body place element.body_in_range node) said.is_place said.value in
         subst (λ (s : Ref). IsSaid (SaysIn area) found s) named
-        (entry, (cell_found p is range found those entry).1 (o, place, there, node, inside, refl), (named_place, said, subst (Holds area) same holds), element.in_range)),
+        (entry, (whole_cell_found p is found range those entry).1 (o, place, there, node, inside, refl), (named_place, said, subst (Holds area) same holds), element.in_range)),
   )
 
   -- and all of them together
@@ -147,29 +149,30 @@ module _ (p : Publication) (is : IsPublication p) (area : ExactBox) where
   pub said_in_range : (range : Range) (found : List Binding) → AreThose (IsEntryIn range) (p.entries Cells) found → (r : Ref) → IsSaid (Names Cells) found r ↔ IsInRange p.objects range r
   said_in_range range found those r = (
     (λ (b, among, (place, says), fits).
-        let (o, at, there, node, inside, entry) = (cell_found p is range found those b).0 among in
+        let (o, at, there, node, inside, entry) = (whole_cell_found p is found range those b).0 among in
         let element = is_element p.objects o is.set there in
         let (named_place, said) = entry_names o Cells b element (at, node, entry) in
         (o, at, there, one_placed b (reference o) r named_place place element.in_range fits said says, node, inside)),
     (λ (o, place, there, named, node, inside).
         let element = is_element p.objects o is.set there in
-        let entry = cell_entry place o.id in
+        let entry = cell_entry Whole place o in
         subst (λ (s : Ref). IsSaid (Names Cells) found s) named
-        (entry, (cell_found p is range found those entry).1 (o, place, there, node, inside, refl), entry_names o Cells entry element (place, node, refl), element.in_range)),
+        (entry, (whole_cell_found p is found range those entry).1 (o, place, there, node, inside, refl), entry_names o Cells entry element (place, node, refl), element.in_range)),
   )
 
-  pub in_cells : (ranges : List Range) → AreCellRanges area ranges → (r : Ref) → From ranges (IsInRange p.objects) r ↔ IsRefOf p.objects (IsInCellsOf area) r
+  pub in_cells : (ranges : List Range) → AreCellRanges area ranges → (r : Ref) → From ranges (IsInRange p.objects) r ↔ IsRefOf p.objects (IsInCellsOf (grain_of p.edition) area) r
   in_cells ranges are r = (
-    (λ (range, among, (o, place, there, named, node, inside)). (o, there, named, (ranges, are, (range, place, among, node, inside)))),
-    (λ (o, there, named, (others, are_too, (range, place, among, node, inside))).
+    (λ (range, among, (o, place, there, named, node, inside)). (o, there, named, from_whole p area o (ranges, are, (range, place, among, node, inside)))),
+    (λ (o, there, named, cells).
+        let (others, are_too, (range, place, among, node, inside)) = to_whole p area o cells in
         (range, subst (λ (l : List Range). Contains l range) (one_ranges area others ranges are_too are) among, (o, place, there, named, node, inside))),
   )
 
-  pub box_needs : (ranges : List Range) → AreCellRanges area ranges → (x : List ℕ) → NeededBy p (From ranges IsCellsAsk) x → NeededBy p (IsAskedInBox area) x
-  box_needs ranges are = needed_as (λ ask (range, among, e). (ranges, are, (range, among, e)))
+  pub box_needs : (ranges : List Range) → AreCellRanges area ranges → (x : List ℕ) → NeededBy p (From ranges IsCellsAsk) x → NeededBy p (IsAskedInBox p area) x
+  box_needs ranges are = needed_as (λ ask (range, among, e). (ranges, boxed p area ranges are, (range, among, e)))
 
-  pub needs_box : (ranges : List Range) → AreCellRanges area ranges → (x : List ℕ) → NeededBy p (IsAskedInBox area) x → NeededBy p (From ranges IsCellsAsk) x
-  needs_box ranges are = needed_as (λ ask (others, are_too, (range, among, e)). (range, subst (λ (l : List Range). Contains l range) (one_ranges area others ranges are_too are) among, e))
+  pub needs_box : (ranges : List Range) → AreCellRanges area ranges → (x : List ℕ) → NeededBy p (IsAskedInBox p area) x → NeededBy p (From ranges IsCellsAsk) x
+  needs_box ranges are = needed_as (λ ask (others, are_too, (range, among, e)). (range, subst (λ (l : List Range). Contains l range) (one_ranges area others ranges (celled p area others are_too) are) among, e))
 
   -- reading what one range found adds its nodes, or is refused for memory
   pub range_added : (range : Range) (found : List Binding) (names more : List Ref) → AreThose (IsEntryIn range) (p.entries Cells) found → (result : Result (Unit {0}) EvalFault)
@@ -193,10 +196,10 @@ module _ (p : Publication) (is : IsPublication p) (area : ExactBox) where
 
   -- how many nodes all ranges have
   pub cells_size : (ranges : List Range) (cells sorted : List Ref) (size : ℕ) → AreCellRanges area ranges → Adds [] cells (From ranges (IsInRange p.objects)) → IsSetOf sorted (Contains cells) → size ≡ length sorted
-      → IsSizeOf (IsRefOf p.objects (IsInCellsOf area)) size
+      → IsSizeOf (IsRefOf p.objects (IsInCellsOf (grain_of p.edition) area)) size
   cells_size ranges cells sorted size are so set e = (
     sorted,
-    set_as sorted (Contains cells) (IsRefOf p.objects (IsInCellsOf area))
+    set_as sorted (Contains cells) (IsRefOf p.objects (IsInCellsOf (grain_of p.edition) area))
         (λ r. ((λ has. (in_cells ranges are r).0 ((adds_to_nothing refl so r).0 has)), (λ within. (adds_to_nothing refl so r).1 ((in_cells ranges are r).1 within)))) set,
     e,
   )

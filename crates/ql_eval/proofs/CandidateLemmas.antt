@@ -35,12 +35,12 @@ use Rattle.ql_eval.proofs.EntryLemmas.{set_as}
 -- how the base of a query statement is answered, with what is known then
 abbrev pub FoundWell : Publication → Env → Pick → Option Filter → Type 0 → ShelfUse → Result (List Ref) EvalFault → Type 0
 FoundWell p env pick base Known shelf result =
-    Outcome cause_of_evaluation (λ refs. IsSetOf refs (IsRefOf p.objects (IsSelected p.objects env pick (option_to_list base))) × Known) (NeededBy p (AskedByBase p.objects env (kind_picked pick) base)) shelf result
+    Outcome cause_of_evaluation (λ refs. IsSetOf refs (IsRefOf p.objects (IsSelected p.objects env pick (option_to_list base))) × Known) (NeededBy p (AskedByBase p env (kind_picked pick) base)) shelf result
 
 -- how a filter is answered that is the base, and how a scan is
 abbrev pub KeptWell : Publication → Env → Option Kind → Filter → Type 0 → ShelfUse → Result (List Ref) EvalFault → Type 0
 KeptWell p env kind filter Known shelf result =
-    Outcome cause_of_evaluation (λ refs. IsSetOf refs (IsKeptOf p.objects env kind filter) × Known) (NeededBy p (AskedByBase p.objects env kind (Some filter))) shelf result
+    Outcome cause_of_evaluation (λ refs. IsSetOf refs (IsKeptOf p.objects env kind filter) × Known) (NeededBy p (AskedByBase p env kind (Some filter))) shelf result
 
 abbrev pub KindsWell : Publication → List Kind → Type 0 → ShelfUse → Result (List Ref) EvalFault → Type 0
 KindsWell p kinds Known shelf result =
@@ -159,10 +159,10 @@ pub named_ids : (kind : Option Kind) (ids : List ℤ) (names : List Ref) → ((r
 named_ids kind ids names are r = ((λ has. let so = (are r).0 has in ((kinds_have kind r).0 so.0, so.1)), (λ is. (are r).1 ((kinds_have kind r).1 is.0, is.1)))
 
 module _ (p : Publication) (kind : Option Kind) (ids : List ℤ) (names : List Ref) (are : (r : Ref) → Contains names r ↔ (Contains (kinds_of kind) r.kind × Contains ids r.id)) where
-  pub ids_need : (x : List ℕ) → NeededBy p (From names IsObjectAsk) x → NeededBy p (AskedByBase p.objects (λ name. []) kind (Some (Ids ids))) x
+  pub ids_need : (x : List ℕ) → NeededBy p (From names IsObjectAsk) x → NeededBy p (AskedByBase p (λ name. []) kind (Some (Ids ids))) x
   ids_need = needed_as (λ ask (r, among, e). (r, (named_ids kind ids names are r).0 among, e))
 
-  pub needs_ids : (x : List ℕ) → NeededBy p (AskedByBase p.objects (λ name. []) kind (Some (Ids ids))) x → NeededBy p (From names IsObjectAsk) x
+  pub needs_ids : (x : List ℕ) → NeededBy p (AskedByBase p (λ name. []) kind (Some (Ids ids))) x → NeededBy p (From names IsObjectAsk) x
   needs_ids = needed_as (λ ask (r, is, e). (r, (named_ids kind ids names are r).1 is, e))
 
   pub ids_there : (refs : List Ref) → IsSetOf refs (From names (IsThereAs p.objects)) → IsSetOf refs (λ r. IsOfIds kind ids r × IsThere p.objects r)

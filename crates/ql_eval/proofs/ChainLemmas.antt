@@ -29,12 +29,12 @@ use Rattle.ql_eval.proofs.EntryLemmas.{set_as}
 -- how steps from some references end, with what is known then
 abbrev pub LedWell : Publication → Direction → List Ref → Type 0 → ShelfUse → Result (List Ref) EvalFault → Type 0
 LedWell p direction names Known shelf result =
-    Outcome cause_of_evaluation (λ refs. IsSetOf refs (From names (Leads direction p.objects)) × Known) (NeededBy p (From names (LeadsAsk direction p.objects))) shelf result
+    Outcome cause_of_evaluation (λ refs. IsSetOf refs (From names (Leads direction p.objects)) × Known) (NeededBy p (From names (LeadsAsk direction p))) shelf result
 
 -- how far chains have been gone along
 abbrev pub ChainedWell : Publication → Direction → List Ref → List Ref → List Ref → Type 0 → ShelfUse → Type 0
 ChainedWell p direction from followed refs Known shelf =
-    Outcome cause_of_evaluation (λ (_ : Unit {0}). AreChained direction p.objects from followed refs × Known) (NeededBy p (IsChainAsk direction p.objects from followed)) shelf (Ok tt)
+    Outcome cause_of_evaluation (λ (_ : Unit {0}). AreChained direction p.objects from followed refs × Known) (NeededBy p (IsChainAsk direction p from followed)) shelf (Ok tt)
 
 -- ---- steps down
 
@@ -54,13 +54,13 @@ down_leads objects names refs set = set_as refs (λ r. IsListedIn objects names 
     )) set
 
 module _ (p : Publication) (names : List Ref) where
-  pub down_needs : (x : List ℕ) → NeededBy p (IsBelowAsk p.objects names kinds.Node kinds.Rel) x → NeededBy p (From names (LeadsAsk Down p.objects)) x
+  pub down_needs : (x : List ℕ) → NeededBy p (IsBelowAsk p names kinds.Node kinds.Rel) x → NeededBy p (From names (LeadsAsk Down p)) x
   down_needs = needed_as (λ ask asked. elim asked [
     | inl (name, among, parent) ↦ (name, among, inl parent)
     | inr (r, ((name, among, listed), kind), e) ↦ (name, among, inr (r, listed, e))
   ])
 
-  pub needs_down : (x : List ℕ) → NeededBy p (From names (LeadsAsk Down p.objects)) x → NeededBy p (IsBelowAsk p.objects names kinds.Node kinds.Rel) x
+  pub needs_down : (x : List ℕ) → NeededBy p (From names (LeadsAsk Down p)) x → NeededBy p (IsBelowAsk p names kinds.Node kinds.Rel) x
   needs_down = needed_as (λ ask (name, among, asked). elim asked [
     | inl parent ↦ inl (name, among, parent)
     | inr (r, listed, e) ↦ inr (r, ((name, among, listed), all_kinds r), e)
@@ -140,33 +140,33 @@ module _ (direction : Direction) (objects : List Element) (from : List Ref) wher
   end_there r (first, among, way) = way_there direction objects first r way
 
 module _ (p : Publication) (direction : Direction) (from : List Ref) where
-  pub first_needs : (x : List ℕ) → NeededBy p (From from (LeadsAsk direction p.objects)) x → NeededBy p (IsChainAsk direction p.objects from []) x
+  pub first_needs : (x : List ℕ) → NeededBy p (From from (LeadsAsk direction p)) x → NeededBy p (IsChainAsk direction p from []) x
   first_needs = needed_as (λ ask asked. inl asked)
 
-  pub needs_first : (x : List ℕ) → NeededBy p (IsChainAsk direction p.objects from []) x → NeededBy p (From from (LeadsAsk direction p.objects)) x
+  pub needs_first : (x : List ℕ) → NeededBy p (IsChainAsk direction p from []) x → NeededBy p (From from (LeadsAsk direction p)) x
   needs_first = needed_as (λ ask asked. elim asked [ inl of ↦ of | inr other ↦ absurd (none other.0 other.1) ])
 
   -- what some rounds asked, all of them ask
-  pub chain_ends : (followed : List Ref) (x : List ℕ) → NeededBy p (IsChainAsk direction p.objects from followed) x → NeededBy p (IsEndAsk direction p.objects from) x
+  pub chain_ends : (followed : List Ref) (x : List ℕ) → NeededBy p (IsChainAsk direction p from followed) x → NeededBy p (IsEndAsk direction p from) x
   chain_ends followed = needed_as (λ ask asked. elim asked [ inl of ↦ inl of | inr (r, among, end, asks) ↦ inr (r, end, asks) ])
 
-  pub ends_chain : (refs : List Ref) → AreChained direction p.objects from refs refs → (x : List ℕ) → NeededBy p (IsEndAsk direction p.objects from) x → NeededBy p (IsChainAsk direction p.objects from refs) x
+  pub ends_chain : (refs : List Ref) → AreChained direction p.objects from refs refs → (x : List ℕ) → NeededBy p (IsEndAsk direction p from) x → NeededBy p (IsChainAsk direction p from refs) x
   ends_chain refs so = needed_as (λ ask asked. elim asked [
     | inl of ↦ inl of
     | inr (r, (first, among, way), asks) ↦ inr (r, reached direction p.objects from refs so first r among way, (first, among, way), asks)
   ])
 
   module _ (at : ℕ) (refs : List Ref) where
-    pub front_asks : (x : List ℕ) → NeededBy p (IsChainAsk direction p.objects from (take at refs)) x → NeededBy p (IsChainAsk direction p.objects from refs) x
+    pub front_asks : (x : List ℕ) → NeededBy p (IsChainAsk direction p from (take at refs)) x → NeededBy p (IsChainAsk direction p from refs) x
     front_asks = needed_as (λ ask asked. elim asked [ inl of ↦ inl of | inr (r, taken, end, asks) ↦ inr (r, taken_is_there at refs r taken, end, asks) ])
 
-    pub left_asks : AreChained direction p.objects from (take at refs) refs → (x : List ℕ) → NeededBy p (From (drop at refs) (LeadsAsk direction p.objects)) x → NeededBy p (IsChainAsk direction p.objects from refs) x
+    pub left_asks : AreChained direction p.objects from (take at refs) refs → (x : List ℕ) → NeededBy p (From (drop at refs) (LeadsAsk direction p)) x → NeededBy p (IsChainAsk direction p from refs) x
     left_asks so = needed_as (λ ask (r, left, asks). let among = left_is_there at refs r left in inr (r, among, so.sound r among, asks))
 
-    pub left_ends : AreChained direction p.objects from (take at refs) refs → (x : List ℕ) → NeededBy p (From (drop at refs) (LeadsAsk direction p.objects)) x → NeededBy p (IsEndAsk direction p.objects from) x
+    pub left_ends : AreChained direction p.objects from (take at refs) refs → (x : List ℕ) → NeededBy p (From (drop at refs) (LeadsAsk direction p)) x → NeededBy p (IsEndAsk direction p from) x
     left_ends so x needs = chain_ends refs x (left_asks so x needs)
 
-    pub asks_split : (x : List ℕ) → NeededBy p (IsChainAsk direction p.objects from refs) x → NeededBy p (IsChainAsk direction p.objects from (take at refs)) x ⊎ NeededBy p (From (drop at refs) (LeadsAsk direction p.objects)) x
+    pub asks_split : (x : List ℕ) → NeededBy p (IsChainAsk direction p from refs) x → NeededBy p (IsChainAsk direction p from (take at refs)) x ⊎ NeededBy p (From (drop at refs) (LeadsAsk direction p)) x
     asks_split x needs = elim needs.asked [
       | inl of ↦ inl (record { ask = needs.ask; asked = inl of; needs = needs.needs })
       | inr (r, among, end, asks) ↦ elim (taken_or_left at refs r among) [

@@ -12,7 +12,7 @@ use Rattle.ql_syntax.specs.declared.recursion.Recursion.{Recursion}
 use Rattle.ql_syntax.specs.declared.recursion.Recursion.TheVariants as recursions
 use Rattle.ref_sets.specs.Sets.{IsSetOf}
 use Rattle.ql_meaning.specs.Values.{IsChain, IsParent, IsReached, IsRefOf, Link, Longer}
-use Rattle.ql_eval.specs.Asks.{AskedByRecursion}
+use Rattle.ql_eval.specs.Asks.{AskedByRecursion, IsReachedDown}
 use Rattle.ql_eval.specs.Faults.{cause_of_evaluation}
 use Rattle.ql_eval.specs.Questions.{Ask, NeededBy, object_ask}
 use Rattle.ql_eval.specs.Work.{OfSet}
@@ -28,7 +28,7 @@ use Rattle.ql_eval.proofs.EntryLemmas.{set_as}
 -- how a recursion ends, with what is known then
 abbrev pub RecursedWell : Publication → Recursion → List Ref → Type 0 → ShelfUse → Result (List Ref) EvalFault → Type 0
 RecursedWell p how set Known shelf result =
-    Outcome cause_of_evaluation (λ refs. IsSetOf refs (IsRefOf p.objects (IsReached p.objects how set)) × Known) (NeededBy p (AskedByRecursion p.objects how set)) shelf result
+    Outcome cause_of_evaluation (λ refs. IsSetOf refs (IsRefOf p.objects (IsReached p.objects how set)) × Known) (NeededBy p (AskedByRecursion p how set)) shelf result
 
 -- ---- chains and their ends
 
@@ -126,42 +126,38 @@ module _ (p : Publication) (is_set : IsObjectSet p.objects) (set : List Ref) (th
 
   -- ---- what is asked
 
-  -- the last step of a way
-  last_step : (first last : Ref) → Contains set first → IsWay Down p.objects first last → (r : Ref) × (Contains set r ⊎ IsEnd Down p.objects set r) × IsListedOf p.objects r last
-  last_step first last among (One a b leads) = (a, inl among, leads.0)
-  last_step first last among (More a n b way leads) = (n, inr (a, among, way), leads.0)
-
-  listed_ask : (r s : Ref) (ask : Ask) → (Contains set r ⊎ IsEnd Down p.objects set r) → IsListedOf p.objects r s → ask ≡ object_ask s → AskedByRecursion p.objects recursions.DownAll set ask
+  listed_ask : (r s : Ref) (ask : Ask) → (Contains set r ⊎ IsEnd Down p.objects set r) → IsListedOf p.objects r s → ask ≡ object_ask s → AskedByRecursion p recursions.DownAll set ask
   listed_ask r s ask has (o, there, named, lists) e =
-      inr (s, (o, there, subst (λ (t : Ref). Contains set t ⊎ IsRefOf p.objects (IsReached p.objects recursions.DownAll set) t) (sym named) (elim has [ inl in_set ↦ inl in_set | inr end ↦ inr ((down_reached r).0 end) ]), lists), e)
+      inr (s, (o, there, subst (λ (t : Ref). IsReachedDown p.objects set t) (sym named) (elim has [ inl in_set ↦ inl in_set | inr end ↦ inr ((down_reached r).0 end) ]), lists), e)
 
-  ends_ask : (ask : Ask) → IsEndAsk Down p.objects set ask → AskedByRecursion p.objects recursions.DownAll set ask
-  ends_ask ask (inl (name, among, (inl (other, e)))) = inl (name, (among, other), e)
+  ends_ask : (ask : Ask) → IsEndAsk Down p set ask → AskedByRecursion p recursions.DownAll set ask
+  ends_ask ask (inl (name, among, (inl (other, e)))) = inl (name, (inl among, other), e)
   ends_ask ask (inl (name, among, (inr (s, listed, e)))) = listed_ask name s ask (inl among) listed e
-  ends_ask ask (inr (r, (first, among, way), (inl (other, e)))) = let (q, has, listed) = last_step first r among way in listed_ask q r ask has listed e
+  ends_ask ask (inr (r, end, (inl (other, e)))) = inl (r, (inr ((down_reached r).0 end), other), e)
   ends_ask ask (inr (r, end, (inr (s, listed, e)))) = listed_ask r s ask (inr end) listed e
 
-  ask_ends : (ask : Ask) → AskedByRecursion p.objects recursions.DownAll set ask → IsEndAsk Down p.objects set ask
-  ask_ends ask (inl (name, (among, other), e)) = inl (name, among, inl (other, e))
+  ask_ends : (ask : Ask) → AskedByRecursion p recursions.DownAll set ask → IsEndAsk Down p set ask
+  ask_ends ask (inl (name, ((inl among), other), e)) = inl (name, among, inl (other, e))
+  ask_ends ask (inl (r, ((inr reached), other), e)) = inr (r, (down_reached r).1 reached, inl (other, e))
   ask_ends ask (inr (s, (o, there, (inl in_set), lists), e)) = inl (reference o, in_set, inr (s, (o, there, refl, lists), e))
   ask_ends ask (inr (s, (o, there, (inr reached), lists), e)) = inr (reference o, (down_reached (reference o)).1 reached, inr (s, (o, there, refl, lists), e))
 
-  pub down_all_needs : (x : List ℕ) → NeededBy p (IsEndAsk Down p.objects set) x → NeededBy p (AskedByRecursion p.objects recursions.DownAll set) x
+  pub down_all_needs : (x : List ℕ) → NeededBy p (IsEndAsk Down p set) x → NeededBy p (AskedByRecursion p recursions.DownAll set) x
   down_all_needs = needed_as ends_ask
 
-  pub needs_down_all : (x : List ℕ) → NeededBy p (AskedByRecursion p.objects recursions.DownAll set) x → NeededBy p (IsEndAsk Down p.objects set) x
+  pub needs_down_all : (x : List ℕ) → NeededBy p (AskedByRecursion p recursions.DownAll set) x → NeededBy p (IsEndAsk Down p set) x
   needs_down_all = needed_as ask_ends
 
-  up_ends_ask : (ask : Ask) → IsEndAsk Up p.objects set ask → AskedByRecursion p.objects recursions.UpAll set ask
+  up_ends_ask : (ask : Ask) → IsEndAsk Up p set ask → AskedByRecursion p recursions.UpAll set ask
   up_ends_ask ask (inl (name, among, e)) = (name, inl among, e)
   up_ends_ask ask (inr (r, end, e)) = (r, inr ((up_reached r).0 end), e)
 
-  up_ask_ends : (ask : Ask) → AskedByRecursion p.objects recursions.UpAll set ask → IsEndAsk Up p.objects set ask
+  up_ask_ends : (ask : Ask) → AskedByRecursion p recursions.UpAll set ask → IsEndAsk Up p set ask
   up_ask_ends ask (r, (inl among), e) = inl (r, among, e)
   up_ask_ends ask (r, (inr reached), e) = inr (r, (up_reached r).1 reached, e)
 
-  pub up_all_needs : (x : List ℕ) → NeededBy p (IsEndAsk Up p.objects set) x → NeededBy p (AskedByRecursion p.objects recursions.UpAll set) x
+  pub up_all_needs : (x : List ℕ) → NeededBy p (IsEndAsk Up p set) x → NeededBy p (AskedByRecursion p recursions.UpAll set) x
   up_all_needs = needed_as up_ends_ask
 
-  pub needs_up_all : (x : List ℕ) → NeededBy p (AskedByRecursion p.objects recursions.UpAll set) x → NeededBy p (IsEndAsk Up p.objects set) x
+  pub needs_up_all : (x : List ℕ) → NeededBy p (AskedByRecursion p recursions.UpAll set) x → NeededBy p (IsEndAsk Up p set) x
   needs_up_all = needed_as up_ask_ends

@@ -17,12 +17,14 @@ use Rattle.tree_walk.specs.Ranges.{Range}
 use Rattle.tree_walk.specs.Walks.{IsEntryIn}
 use Rattle.tree_walk.proofs.shared.FoundLemmas.{those_among}
 use Rattle.osm_keys.specs.Entries.{IsEntryOf, back_entry, object_entry, tag_entry}
+use Rattle.osm_keys.specs.Grains.{Whole}
 use Rattle.osm_keys.specs.Keys.{IsTagText, column, row}
 use Rattle.osm_keys.specs.Publications.{IsPublication, Publication}
 use Rattle.osm_keys.specs.Ranges.{back_range, kind_range, tag_key_range, tag_range}
 use Rattle.osm_keys.proofs.shared.CellLaws.{column_few, row_few}
 use Rattle.osm_keys.proofs.shared.OneObject.{is_element}
-use Rattle.osm_keys.proofs.shared.RangeLaws.{back_found, fits_of_lists, kind_found, tag_found, tag_key_found}
+use Rattle.osm_keys.proofs.shared.OnePublication.{whole_lists}
+use Rattle.osm_keys.proofs.shared.RangeLaws.{fits_of_lists}
 use Rattle.ref_sets.specs.Sets.{IsSetOf}
 use Rattle.ql_meaning.specs.Values.{IsRefOf}
 use Rattle.ql_eval.specs.Faults.{cause_of_evaluation}
@@ -32,6 +34,7 @@ use Rattle.ql_eval.specs.Forms.{Names}
 use Rattle.ql_eval.specs.internal.Entries.{AreMisread, HasNoNulIn, HasUnread, IsSaid, TargetFits}
 use Rattle.ql_eval.proofs.NameLemmas.{one_named}
 use Rattle.ql_eval.proofs.ObjectLemmas.{line_puts}
+use Rattle.ql_eval.proofs.WholeLemmas.{whole_back_found, whole_kind_found, whole_tag_found, whole_tag_key_found}
 
 -- ---- each entry names the object that it is of
 
@@ -42,7 +45,7 @@ tag_texts o tag is has =
     let short = subst (λ (t : Tag). (length t.key ≤ 4096) × (length t.value ≤ 4096)) has.2 (is.fits.short.in_tags has.0 tag has.1) in
     (record { utf8 = utf8.0; no_nul = clean.0; short = short.0 }, record { utf8 = utf8.1; no_nul = clean.1; short = short.1 })
 
-pub entry_names : (o : Element) (tree : Tree) (b : Binding) → IsElement o → IsEntryOf o tree b → Names tree b (reference o)
+pub entry_names : (o : Element) (tree : Tree) (b : Binding) → IsElement o → IsEntryOf Whole o tree b → Names tree b (reference o)
 entry_names o Objects b is e = (o, record { key = ap (λ (c : Binding). c.key) e; line = line_puts b.value o is (ap (λ (c : Binding). c.value) e) }, refl)
 entry_names o Tags b is (tag, has, e) =
     let texts = tag_texts o tag is has in
@@ -68,13 +71,13 @@ module _ (p : Publication) (is : IsPublication p) (tree : Tree) (found : List Bi
   pub never_unread : (range : Range) → AreThose (IsEntryIn range) (p.entries tree) found → HasUnread tree found → ⊥
   never_unread range those (b, among, nothing) =
       let have = those_among (IsEntryIn range) (p.entries tree) found those b among in
-      let (o, there, of) = ((is.lists tree).members b).0 have.0 in
+      let (o, there, of) = ((whole_lists p is tree).members b).0 have.0 in
       let element = is_element p.objects o is.set there in
       nothing (reference o, element.in_range, entry_names o tree b element of)
 
   -- where a range finds just the entries of some objects, these are the ones that are named
-  pub said_as : (Has : Element → Type 0) → ((b : Binding) → Contains found b → (o : Element) × Contains p.objects o × Has o × IsEntryOf o tree b)
-      → ((o : Element) → Contains p.objects o → Has o → (b : Binding) × Contains found b × IsEntryOf o tree b) → (r : Ref) → IsSaid (Names tree) found r ↔ IsRefOf p.objects Has r
+  pub said_as : (Has : Element → Type 0) → ((b : Binding) → Contains found b → (o : Element) × Contains p.objects o × Has o × IsEntryOf Whole o tree b)
+      → ((o : Element) → Contains p.objects o → Has o → (b : Binding) × Contains found b × IsEntryOf Whole o tree b) → (r : Ref) → IsSaid (Names tree) found r ↔ IsRefOf p.objects Has r
   said_as Has of from r = (
     (λ (b, among, names, fits).
         let (o, there, has, entry) = of b among in
@@ -91,41 +94,41 @@ module _ (p : Publication) (is : IsPublication p) (tree : Tree) (found : List Bi
 module _ (p : Publication) (is : IsPublication p) (found : List Binding) where
   pub kind_named : (kind : Kind) → AreThose (IsEntryIn (kind_range kind)) (p.entries Objects) found → (r : Ref) → IsSaid (Names Objects) found r ↔ IsRefOf p.objects (Answers (OfKind kind)) r
   kind_named kind those = said_as p is Objects found (Answers (OfKind kind))
-      (λ b among. (kind_found p is kind found those b).0 among)
-      (λ o there k. (object_entry o, (kind_found p is kind found those (object_entry o)).1 (o, there, k, refl), refl))
+      (λ b among. (whole_kind_found p is found kind those b).0 among)
+      (λ o there k. (object_entry Whole o, (whole_kind_found p is found kind those (object_entry Whole o)).1 (o, there, k, refl), refl))
 
   pub tag_named : (key value : List ℕ) (kind : Option Kind) → HasNoNul key → HasNoNul value → AreThose (IsEntryIn (tag_range key value kind)) (p.entries Tags) found
       → (r : Ref) → IsSaid (Names Tags) found r ↔ IsRefOf p.objects (Answers (WithTag key value kind)) r
   tag_named key value kind hk hv those = said_as p is Tags found (Answers (WithTag key value kind))
       (λ b among.
-      let (o, there, of_kind, (tag, at, ek, ev), e) = (tag_found p is key value hk hv kind found those b).0 among in
-      (o, there, (of_kind, (tag, at, ek, ev)), (tag, at, e ∙ ap (λ (k : List ℕ). tag_entry k value (reference o)) (sym ek) ∙ ap (λ (v : List ℕ). tag_entry tag.key v (reference o)) (sym ev))))
+      let (o, there, of_kind, (tag, at, ek, ev), e) = (whole_tag_found p is found key value hk hv kind those b).0 among in
+      (o, there, (of_kind, (tag, at, ek, ev)), (tag, at, e ∙ ap (λ (k : List ℕ). tag_entry Whole k value o) (sym ek) ∙ ap (λ (v : List ℕ). tag_entry Whole tag.key v o) (sym ev))))
       (λ o there (of_kind, (tag, at, ek, ev)). (
-        tag_entry key value (reference o),
-        (tag_found p is key value hk hv kind found those (tag_entry key value (reference o))).1 (o, there, of_kind, (tag, at, ek, ev), refl),
-        (tag, at, ap (λ (k : List ℕ). tag_entry k value (reference o)) (sym ek) ∙ ap (λ (v : List ℕ). tag_entry tag.key v (reference o)) (sym ev)),
+        tag_entry Whole key value o,
+        (whole_tag_found p is found key value hk hv kind those (tag_entry Whole key value o)).1 (o, there, of_kind, (tag, at, ek, ev), refl),
+        (tag, at, ap (λ (k : List ℕ). tag_entry Whole k value o) (sym ek) ∙ ap (λ (v : List ℕ). tag_entry Whole tag.key v o) (sym ev)),
       ))
 
   pub key_named : (key : List ℕ) → HasNoNul key → AreThose (IsEntryIn (tag_key_range key)) (p.entries Tags) found → (r : Ref) → IsSaid (Names Tags) found r ↔ IsRefOf p.objects (Answers (WithKey key)) r
   key_named key hk those = said_as p is Tags found (Answers (WithKey key))
       (λ b among.
-      let (o, value, there, clean, (tag, at, ek, ev), e) = (tag_key_found p is key hk found those b).0 among in
-      (o, there, (tag, at, ek), (tag, at, e ∙ ap (λ (k : List ℕ). tag_entry k value (reference o)) (sym ek) ∙ ap (λ (v : List ℕ). tag_entry tag.key v (reference o)) (sym ev))))
+      let (o, value, there, clean, (tag, at, ek, ev), e) = (whole_tag_key_found p is found key hk those b).0 among in
+      (o, there, (tag, at, ek), (tag, at, e ∙ ap (λ (k : List ℕ). tag_entry Whole k value o) (sym ek) ∙ ap (λ (v : List ℕ). tag_entry Whole tag.key v o) (sym ev))))
       (λ o there (tag, at, ek).
       let clean = (tag_texts o tag (is_element p.objects o is.set there) at).1.no_nul in (
-        tag_entry key tag.value (reference o),
-        (tag_key_found p is key hk found those (tag_entry key tag.value (reference o))).1 (o, tag.value, there, clean, (tag, at, ek, refl), refl),
-        (tag, at, ap (λ (k : List ℕ). tag_entry k tag.value (reference o)) (sym ek)),
+        tag_entry Whole key tag.value o,
+        (whole_tag_key_found p is found key hk those (tag_entry Whole key tag.value o)).1 (o, tag.value, there, clean, (tag, at, ek, refl), refl),
+        (tag, at, ap (λ (k : List ℕ). tag_entry Whole k tag.value o) (sym ek)),
       ))
 
   pub list_named : (target : Ref) (kind : Option Kind) → FitsSigned w64 target.id → AreThose (IsEntryIn (back_range target kind)) (p.entries Backs) found
       → (r : Ref) → IsSaid (Names Backs) found r ↔ IsRefOf p.objects (Answers (ThatList target kind)) r
   list_named target kind fits those = said_as p is Backs found (Answers (ThatList target kind))
       (λ b among.
-      let (o, there, of_kind, lists, e) = (back_found p is target fits kind found those b).0 among in
+      let (o, there, of_kind, lists, e) = (whole_back_found p is found target fits kind those b).0 among in
       (o, there, (of_kind, lists), (target, lists, e)))
       (λ o there (of_kind, lists).
-      (back_entry target (reference o), (back_found p is target fits kind found those (back_entry target (reference o))).1 (o, there, of_kind, lists, refl), (target, lists, refl)))
+      (back_entry Whole target o, (whole_back_found p is found target fits kind those (back_entry Whole target o)).1 (o, there, of_kind, lists, refl), (target, lists, refl)))
 
 -- ---- reading what was found
 

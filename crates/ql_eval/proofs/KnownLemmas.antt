@@ -17,7 +17,9 @@ use Rattle.osm_model.specs.declared.reference.Ref.{Ref}
 use Rattle.osm_model.proofs.shared.References.{refs_total}
 use Rattle.osm_keys.specs.Publications.{IsPublication, Publication}
 use Rattle.osm_keys.proofs.shared.OneObject.{same_reference}
-use Rattle.tree_node.specs.Outcomes.{Outcome}
+use Rattle.osm_keys.proofs.shared.OnePublication.{whole_grain}
+use Rattle.osm_keys.specs.Grains.{Grain, grain_of}
+use Rattle.tree_node.specs.Outcomes.{Cause, Outcome}
 use Rattle.tree_node.proofs.shared.OutcomeLaws.{Nodes, clash_more, uses}
 use Rattle.osm_keys.specs.Manifests.{top_among}
 use Rattle.osm_keys.specs.Ranges.{object_range}
@@ -27,7 +29,7 @@ use Rattle.tree_walk.specs.Given.{These}
 use Rattle.tree_walk.proofs.shared.GivenLaws.{gives_more}
 use Rattle.ql_eval.specs.TrueFaults.{IsAbsent}
 use Rattle.ql_eval.specs.Faults.{cause_of_evaluation}
-use Rattle.ql_eval.specs.Questions.{NeedsAsk, object_ask}
+use Rattle.ql_eval.specs.Questions.{Ask, NeedsAsk, line_ask, object_ask}
 use Rattle.ql_eval.specs.internal.Objects.{AreAbsent, IsKnownObject, IsKnownParent, IsKnownThere, Remembers}
 use Rattle.ql_eval.proofs.NameLemmas.{last_or_before}
 
@@ -54,6 +56,12 @@ module _ (p : Publication) (r : Ref) (object : Option Element) where
       | inr is ↦ inr (subst Says is.0 says, λ x. ((λ was. inl was), (λ has. elim has [ inl was ↦ was | inr needs ↦ is.1 x needs ])))
     ];
   }
+
+-- the line of an object is asked as the object is
+pub object_is_line : (p : Publication) (r : Ref) {A F : Type 0} {cause : F → Cause} {Is : A → Type 0} {held old new : Nodes} {result : Result A F}
+    → Outcome cause Is (NeedsAsk p (object_ask r)) (uses held old new) result → Outcome cause Is (NeedsAsk p (line_ask (grain_of p.edition) r)) (uses held old new) result
+object_is_line p r {cause = cause} {Is = Is} {held = held} {old = old} {new = new} {result = result} so =
+    subst (λ (ask : Ask). Outcome cause Is (NeedsAsk p ask) (uses held old new) result) (ap (λ (grain : Grain). line_ask grain r) (sym (whole_grain p.edition))) so
 
 -- what is among them is known
 pub known_there : (objects : BTreeMap Ref (Option Element)) (name : Ref) → is_some (get ref_cmp objects name) ≡ true → (object : Option Element) × (get ref_cmp objects name ≡ Some object)

@@ -1,5 +1,6 @@
 pub mod Openings
 pub mod WalkLemmas
+pub mod WholeLemmas
 pub mod AbsenceLemmas
 pub mod ToldLemmas
 pub mod ObjectLemmas

@@ -15,8 +15,9 @@ use Rattle.osm_keys.proofs.shared.OneObject.{object_found, one_object}
 use Rattle.ref_sets.proofs.shared.Adding.{adds_as, adds_list, adds_nothing, adds_one, adds_to_nothing}
 use Rattle.ref_sets.specs.Adding.{Adds, From}
 use Rattle.ref_sets.specs.Sets.{IsSetOf}
+use Rattle.osm_keys.specs.Grains.{grain_of}
 use Rattle.osm_keys.specs.Publications.{Publication}
-use Rattle.ql_eval.specs.Questions.{Ask, NeededBy, NeedsAsk, object_ask}
+use Rattle.ql_eval.specs.Questions.{Ask, NeededBy, NeedsAsk, line_ask}
 use Rattle.ql_eval.specs.internal.Entries.{IsThere}
 use Rattle.ql_eval.proofs.EachLemmas.{needed_as, needed_one, needed_or}
 use Rattle.ref_sets.specs.Kinds.{IsBetween}
@@ -61,20 +62,20 @@ absent_added objects name list nowhere = adds_nothing (λ r has. nowhere has.1)
 pub set_added : {Gives : Ref → Type 0} (set list more : List Ref) → IsSetOf set Gives → more ≡ list ++ set → Adds list more Gives
 set_added set list more is e = adds_as (λ r. (is.members r).0) (λ r. (is.members r).1) (adds_list set e)
 
--- a way or relation asks for its object
-pub parent_needs : {p : Publication} (name : Ref) → name.kind ≢ kinds.Node → (x : List ℕ) → NeedsAsk p (object_ask name) x → NeededBy p (IsParentAsk name) x
-parent_needs name other = needed_one (object_ask name) (other, refl)
+-- a way or relation asks for its line
+pub parent_needs : {p : Publication} (name : Ref) → name.kind ≢ kinds.Node → (x : List ℕ) → NeedsAsk p (line_ask (grain_of p.edition) name) x → NeededBy p (IsParentAsk p name) x
+parent_needs {p = p} name other = needed_one (line_ask (grain_of p.edition) name) (other, refl)
 
-pub needs_parent : {p : Publication} (name : Ref) (x : List ℕ) → NeededBy p (IsParentAsk name) x → NeedsAsk p (object_ask name) x
+pub needs_parent : {p : Publication} (name : Ref) (x : List ℕ) → NeededBy p (IsParentAsk p name) x → NeedsAsk p (line_ask (grain_of p.edition) name) x
 needs_parent {p = p} name x needs = subst (λ (ask : Ask). NeedsAsk p ask x) needs.asked.1 needs.needs
 
 -- ---- what is below
 
 module _ (p : Publication) (names : List Ref) (first last : Kind) (some : List Ref) (are : (r : Ref) → Contains some r ↔ IsListedIn p.objects names first last r) where
-  pub below_needs : (x : List ℕ) → NeededBy p (From some IsObjectAsk) x → NeededBy p (IsBelowAsk p.objects names first last) x
+  pub below_needs : (x : List ℕ) → NeededBy p (From some IsObjectAsk) x → NeededBy p (IsBelowAsk p names first last) x
   below_needs = needed_as (λ ask (r, among, e). inr (r, (are r).0 among, e))
 
-  pub needs_below : (x : List ℕ) → NeededBy p (IsBelowAsk p.objects names first last) x → NeededBy p (From names IsParentAsk) x ⊎ NeededBy p (From some IsObjectAsk) x
+  pub needs_below : (x : List ℕ) → NeededBy p (IsBelowAsk p names first last) x → NeededBy p (From names (IsParentAsk p)) x ⊎ NeededBy p (From some IsObjectAsk) x
   needs_below x needs = elim (needed_or x needs) [
     | inl of ↦ inl of
     | inr listed ↦ inr (needed_as (λ ask (r, in_some, e). (r, (are r).1 in_some, e)) x listed)

@@ -10,6 +10,7 @@ use Rattle.osm_model.specs.declared.kind.Kind.TheVariants as kinds
 use Rattle.osm_model.specs.declared.reference.Ref.{Ref}
 use Rattle.tree_node.specs.Outcomes.{Outcome, ShelfUse}
 use Rattle.tree_node.proofs.shared.OutcomeLaws.{Nodes, outcome_starts, uses}
+use Rattle.osm_keys.specs.Grains.{grain_of}
 use Rattle.osm_keys.specs.Publications.{Publication}
 use Rattle.osm_keys.proofs.shared.Members.{from_map, in_map}
 use Rattle.ql_syntax.specs.Filters as tree
@@ -25,7 +26,7 @@ use Rattle.ref_sets.specs.NamedSets.{Env}
 use Rattle.ql_eval.specs.Asks.{AskedByRest, AskedFor, IsListedBy, IsOfKindIn}
 use Rattle.ql_eval.specs.Faults.{cause_of_evaluation}
 use Rattle.ql_eval.specs.declared.fault.EvalFault.{EvalFault}
-use Rattle.ql_eval.specs.Questions.{Ask, NeededBy, object_ask}
+use Rattle.ql_eval.specs.Questions.{Ask, NeededBy, line_ask}
 use Rattle.ref_sets.specs.Kinds.{IsBetween}
 use Rattle.ql_eval.specs.internal.Links.{IsListedOf, IsParentAsk}
 use Rattle.ql_eval.proofs.EachLemmas.{needed_as}
@@ -82,10 +83,10 @@ module _ (from some : List Ref) (kind : Kind) (are : (r : Ref) → Contains some
     (λ (among, e). (are r).1 (among, (is_one_kind kind r).1 e)),
   )
 
-  pub needs_path : {p : Publication} (x : List ℕ) → NeededBy p (From some IsParentAsk) x → NeededBy p (AskedFor (IsOfKindIn from kind) object_ask) x
+  pub needs_path : {p : Publication} (x : List ℕ) → NeededBy p (From some (IsParentAsk p)) x → NeededBy p (AskedFor (IsOfKindIn from kind) (line_ask (grain_of p.edition))) x
   needs_path = needed_as (λ ask (r, has, (other, e)). (r, (some_are r).0 has, e))
 
-  pub path_needs : {p : Publication} → kind ≢ kinds.Node → (x : List ℕ) → NeededBy p (AskedFor (IsOfKindIn from kind) object_ask) x → NeededBy p (From some IsParentAsk) x
+  pub path_needs : {p : Publication} → kind ≢ kinds.Node → (x : List ℕ) → NeededBy p (AskedFor (IsOfKindIn from kind) (line_ask (grain_of p.edition))) x → NeededBy p (From some (IsParentAsk p)) x
   path_needs parent = needed_as (λ ask (r, is, e). (r, (some_are r).1 is, ((λ node. parent (sym is.1 ∙ node)), e)))
 
   pub path_is : (objects : List Element) (refs listed left : List Ref) → IsSetOf listed (From some (IsListedOf objects)) → IsSetOf left (λ r. Contains refs r × Contains listed r) → IsSetOf left (λ r. Contains refs r × IsListedBy objects (IsOfKindIn from kind) r)
@@ -103,10 +104,10 @@ abbrev pub IsLeftOf : List Ref → (Ref → Type 0) → List Ref → Type 0
 IsLeftOf refs Is left = IsSetOf left (λ r. Contains refs r × Is r)
 
 abbrev pub LeavesOnPath : Publication → List Ref → List Ref → Type 0 → ShelfUse → Result (List Ref) EvalFault → Path → Type 0
-LeavesOnPath p from refs Known shelf result path = Outcome cause_of_evaluation (λ left. IsLeftOf refs (IsNamedOnPath p.objects from path) left × Known) (NeededBy p (AskedByPathDown from path)) shelf result
+LeavesOnPath p from refs Known shelf result path = Outcome cause_of_evaluation (λ left. IsLeftOf refs (IsNamedOnPath p.objects from path) left × Known) (NeededBy p (AskedByPathDown p from path)) shelf result
 
 abbrev pub LeavesListed : Publication → List Ref → List Ref → Type 0 → ShelfUse → Result (List Ref) EvalFault → Kind → Type 0
-LeavesListed p from refs Known shelf result kind = Outcome cause_of_evaluation (λ left. IsLeftOf refs (IsListedBy p.objects (IsOfKindIn from kind)) left × Known) (NeededBy p (AskedFor (IsOfKindIn from kind) object_ask)) shelf result
+LeavesListed p from refs Known shelf result kind = Outcome cause_of_evaluation (λ left. IsLeftOf refs (IsListedBy p.objects (IsOfKindIn from kind)) left × Known) (NeededBy p (AskedFor (IsOfKindIn from kind) (line_ask (grain_of p.edition)))) shelf result
 
 module _ (p : Publication) (from refs names : List Ref) (same : names ≡ refs) (Known : Type 0) (shelf : ShelfUse) (result : Result (List Ref) EvalFault) (path : Path) where
   pub on_ways : path ≡ paths.W → LeavesListed p from names Known shelf result kinds.Way → LeavesOnPath p from refs Known shelf result path
@@ -116,30 +117,30 @@ module _ (p : Publication) (from refs names : List Ref) (same : names ≡ refs) 
   on_relations is so = subst (λ (q : Path). LeavesOnPath p from refs Known shelf result q) (sym is) (subst (λ (l : List Ref). LeavesListed p from l Known shelf result kinds.Rel) same so)
 
 -- a path asks what its filter does
-rest_asked : (env : Env) (path : Path) (name : List ℕ) (ask : Ask) → AskedByPathDown (env name) path ask → AskedByRest env (tree.Via path name) ask
-rest_asked env paths.W name ask asked = asked
-rest_asked env paths.R name ask asked = asked
-rest_asked env paths.Bn name ask asked = asked
-rest_asked env paths.Bw name ask asked = asked
-rest_asked env paths.Br name ask asked = asked
+rest_asked : (p : Publication) (env : Env) (path : Path) (name : List ℕ) (ask : Ask) → AskedByPathDown p (env name) path ask → AskedByRest p env (tree.Via path name) ask
+rest_asked p env paths.W name ask asked = asked
+rest_asked p env paths.R name ask asked = asked
+rest_asked p env paths.Bn name ask asked = asked
+rest_asked p env paths.Bw name ask asked = asked
+rest_asked p env paths.Br name ask asked = asked
 
-path_asked : (env : Env) (path : Path) (name : List ℕ) (ask : Ask) → AskedByRest env (tree.Via path name) ask → AskedByPathDown (env name) path ask
-path_asked env paths.W name ask asked = asked
-path_asked env paths.R name ask asked = asked
-path_asked env paths.Bn name ask asked = asked
-path_asked env paths.Bw name ask asked = asked
-path_asked env paths.Br name ask asked = asked
+path_asked : (p : Publication) (env : Env) (path : Path) (name : List ℕ) (ask : Ask) → AskedByRest p env (tree.Via path name) ask → AskedByPathDown p (env name) path ask
+path_asked p env paths.W name ask asked = asked
+path_asked p env paths.R name ask asked = asked
+path_asked p env paths.Bn name ask asked = asked
+path_asked p env paths.Bw name ask asked = asked
+path_asked p env paths.Br name ask asked = asked
 
 -- ---- one filter
 
 abbrev pub LeavesNamed : Publication → Env → List Ref → Type 0 → ShelfUse → Result (List Ref) EvalFault → tree.Filter → Type 0
-LeavesNamed p env refs Known shelf result one = Outcome cause_of_evaluation (λ left. IsLeftOf refs (λ r. IsNamedBy p.objects env r one) left × Known) (NeededBy p (AskedByRest env one)) shelf result
+LeavesNamed p env refs Known shelf result one = Outcome cause_of_evaluation (λ left. IsLeftOf refs (λ r. IsNamedBy p.objects env r one) left × Known) (NeededBy p (AskedByRest p env one)) shelf result
 
 pub named_via : (p : Publication) (env : Env) (refs : List Ref) (Known : Type 0) (held old new : Nodes) (result : Result (List Ref) EvalFault) (one : Filter) (path : Path) (name : List ℕ) (from : List Ref) → one ≡ filters.Via path name → from ≡ env name
     → LeavesOnPath p from refs Known (uses held old new) result path → LeavesNamed p env refs Known (uses held old new) result (filter_of one)
 named_via p env refs Known held old new result one path name from is same so =
     subst (λ (f : Filter). LeavesNamed p env refs Known (uses held old new) result (filter_of f)) (sym is)
-    (truly_same (needed_as (rest_asked env path name)) (λ value left. needed_as (path_asked env path name)) (λ value left. left)
+    (truly_same (needed_as (rest_asked p env path name)) (λ value left. needed_as (path_asked p env path name)) (λ value left. left)
     (subst (λ (l : List Ref). LeavesOnPath p l refs Known (uses held old new) result path) same so))
 
 -- nothing is asked

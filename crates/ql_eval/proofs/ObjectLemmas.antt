@@ -21,6 +21,7 @@ use Rattle.osm_keys.specs.Entries.{object_entry}
 use Rattle.osm_keys.proofs.shared.Members.{none}
 use Rattle.osm_keys.proofs.shared.OneObject.{is_element, object_found, object_there, same_ref}
 use Rattle.ql_eval.specs.Faults.{cause_of_evaluation}
+use Rattle.osm_keys.specs.Grains.{Whole}
 use Rattle.osm_keys.specs.Keys.{ref_key}
 use Rattle.ql_eval.specs.Forms.{HasForm, Names, SaysObject}
 use Rattle.ql_eval.specs.declared.fault.EvalFault.{EvalFault}
@@ -36,7 +37,7 @@ pub one_said : (b : Binding) (x o : Element) → SaysObject b x → SaysObject b
 one_said b x o says said = let same : Put x ≡ Put o = one_change b.value (Put x) (Put o) says.line said.line in cc
 
 -- and so does the entry of an object
-pub entry_says : (o : Element) → IsElement o → SaysObject (object_entry o) o
+pub entry_says : (o : Element) → IsElement o → SaysObject (object_entry Whole o) o
 entry_says o is = record { key = refl; line = line_puts (canonical_line o) o is refl }
 
 -- ---- reading a line
@@ -100,7 +101,7 @@ none_found objects r is = at (object_at objects r) refl
   where
     at : (o : Option Element) → object_at objects r ≡ o → object_at objects r ≡ None
     at None e = e
-    at (Some o) e = absurd (none (object_entry o) ((is (object_entry o)).1 (o, e, refl)))
+    at (Some o) e = absurd (none (object_entry Whole o) ((is (object_entry Whole o)).1 (o, e, refl)))
 
 -- what its entries put is the object
 pub put_is : (objects : List Element) (r : Ref) (found : List Binding) (object : Option Element) → IsObjectSet objects → IsFoundAs objects r found → IsPutBy found object → object ≡ object_at objects r

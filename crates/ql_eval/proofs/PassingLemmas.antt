@@ -18,7 +18,7 @@ use Rattle.ref_sets.specs.NamedSets.{Env}
 use Rattle.ql_eval.specs.Faults.{cause_of_evaluation}
 use Rattle.ql_eval.specs.Questions.{NeededBy}
 use Rattle.ql_eval.specs.declared.fault.EvalFault.{EvalFault}
-use Rattle.ql_eval.specs.internal.Links.{IsObjectAsk}
+use Rattle.ql_eval.specs.internal.Links.{IsLineAsk}
 use Rattle.ql_eval.specs.internal.Narrowing.{IsPassingAs, PassesAll}
 use Rattle.ql_eval.proofs.AllLemmas.{all_push}
 
@@ -35,7 +35,7 @@ module _ (objects : List Element) (env : Env) (filters : List tree.Filter) (name
 -- how candidates are filtered whose objects are looked at, with what is known then
 abbrev pub PassedWell : Publication → Env → List tree.Filter → List Ref → Type 0 → ShelfUse → Result (List Ref) EvalFault → Type 0
 PassedWell p env rest candidates Known shelf result =
-    Outcome cause_of_evaluation (λ refs. IsSetOf refs (From candidates (IsPassingAs p.objects env rest)) × Known) (NeededBy p (From candidates IsObjectAsk)) shelf result
+    Outcome cause_of_evaluation (λ refs. IsSetOf refs (From candidates (IsPassingAs p.objects env rest)) × Known) (NeededBy p (From candidates (IsLineAsk p))) shelf result
 
 -- filters of a list, one more
 pub filters_more : (filters : List Filter) (k : ℕ) (f : Filter) → k < length filters → f ≡ get_or filters k f → filters_of (take (k + 1) filters) ≡ filters_of (take k filters) ++ filter_of f ∷ []

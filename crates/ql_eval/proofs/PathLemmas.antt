@@ -29,11 +29,11 @@ use Rattle.ql_eval.proofs.RecursionLemmas.{all_kinds, below_of, of_below, one_of
 -- how what is below some references is found, and how a path is gone along, with what is known then
 abbrev pub BelowWell : Publication → List Ref → Kind → Kind → Type 0 → ShelfUse → Result (List Ref) EvalFault → Type 0
 BelowWell p names first last Known shelf result =
-    Outcome cause_of_evaluation (λ refs. IsSetOf refs (IsBelowThere p.objects names first last) × Known) (NeededBy p (IsBelowAsk p.objects names first last)) shelf result
+    Outcome cause_of_evaluation (λ refs. IsSetOf refs (IsBelowThere p.objects names first last) × Known) (NeededBy p (IsBelowAsk p names first last)) shelf result
 
 abbrev pub PathWell : Publication → Path → List Ref → Option Kind → Type 0 → ShelfUse → Result (List Ref) EvalFault → Type 0
 PathWell p path set kind Known shelf result =
-    Outcome cause_of_evaluation (λ refs. IsSetOf refs (IsAt p.objects set kind path) × Known) (NeededBy p (AskedByPath p.objects set kind path)) shelf result
+    Outcome cause_of_evaluation (λ refs. IsSetOf refs (IsAt p.objects set kind path) × Known) (NeededBy p (AskedByPath p set kind path)) shelf result
 
 -- the kinds from the first to the last are the one, or all
 pub kind_between : (kind : Option Kind) (r : Ref) → IsBetween (first_of kind) (last_of kind) r ↔ IsKindOf kind r
@@ -48,19 +48,19 @@ picked_set kind names refs is = set_as refs (λ r. Contains names r × IsBetween
 -- ---- down
 
 module _ (p : Publication) (set names : List Ref) (from : Kind) (kind : Option Kind) (are : (r : Ref) → Contains names r ↔ (Contains set r × (r.kind ≡ from))) where
-  below_asks : (ask : Ask) → IsBelowAsk p.objects names (first_of kind) (last_of kind) ask → AskedBelow p.objects set from kind ask
+  below_asks : (ask : Ask) → IsBelowAsk p names (first_of kind) (last_of kind) ask → AskedBelow p set from kind ask
   below_asks ask (inl (r, among, (other, e))) = inl (r, (are r).0 among, e)
   below_asks ask (inr (r, ((name, among, (o, there, named, lists)), between), e)) =
       inr (r, ((kind_between kind r).0 between, (o, there, one_of_set p.objects set from names are o name named among, lists)), e)
 
-  asks_below : from ≢ kinds.Node → (ask : Ask) → AskedBelow p.objects set from kind ask → IsBelowAsk p.objects names (first_of kind) (last_of kind) ask
+  asks_below : from ≢ kinds.Node → (ask : Ask) → AskedBelow p set from kind ask → IsBelowAsk p names (first_of kind) (last_of kind) ask
   asks_below other ask (inl (r, has, e)) = inl (r, (are r).1 has, ((λ node. other (sym has.1 ∙ node)), e))
   asks_below other ask (inr (r, (of_kind, (o, there, has, lists)), e)) = inr (r, ((reference o, (are (reference o)).1 has, (o, there, refl, lists)), (kind_between kind r).1 of_kind), e)
 
-  pub below_of_needs : (x : List ℕ) → NeededBy p (IsBelowAsk p.objects names (first_of kind) (last_of kind)) x → NeededBy p (AskedBelow p.objects set from kind) x
+  pub below_of_needs : (x : List ℕ) → NeededBy p (IsBelowAsk p names (first_of kind) (last_of kind)) x → NeededBy p (AskedBelow p set from kind) x
   below_of_needs = needed_as below_asks
 
-  pub needs_below_of : from ≢ kinds.Node → (x : List ℕ) → NeededBy p (AskedBelow p.objects set from kind) x → NeededBy p (IsBelowAsk p.objects names (first_of kind) (last_of kind)) x
+  pub needs_below_of : from ≢ kinds.Node → (x : List ℕ) → NeededBy p (AskedBelow p set from kind) x → NeededBy p (IsBelowAsk p names (first_of kind) (last_of kind)) x
   needs_below_of other = needed_as (asks_below other)
 
   pub below_of_set : (refs : List Ref) → IsSetOf refs (IsBelowThere p.objects names (first_of kind) (last_of kind)) → IsSetOf refs (IsBelowOf p.objects set from kind)

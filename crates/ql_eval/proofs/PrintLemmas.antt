@@ -36,7 +36,7 @@ use Rattle.ql_eval.specs.Faults.{cause_of_evaluation}
 use Rattle.ql_eval.specs.Questions.{Ask, NeededBy}
 use Rattle.ql_eval.specs.Written.{HasWritten}
 use Rattle.ql_eval.specs.declared.fault.EvalFault.{EvalFault}
-use Rattle.ql_eval.specs.internal.Links.{AreThere, IsObjectAsk}
+use Rattle.ql_eval.specs.internal.Links.{AreThere, IsLineAsk}
 use Rattle.ql_eval.proofs.EachLemmas.{all_front, front_all, front_needs, needs_split, next_all, next_needs, none_needed}
 use Rattle.ql_eval.specs.internal.Printing.{line_at, line_of, lines_at, name_lines}
 use Rattle.ql_eval.proofs.WritingLemmas.{written_none, written_then}
@@ -165,19 +165,19 @@ cut_there objects (Some most) refs there = take_there objects most refs there
 
 -- ---- what an out asks
 
-pub out_asks : (refs : List Ref) (mode : OutMode) (limit : Option ℕ) → mode ≢ modes.Ids → (ask : Ask) → AskedByOut refs mode limit ask → From (cut limit refs) IsObjectAsk ask
-out_asks refs modes.Ids limit other ask asked = absurd (other refl)
-out_asks refs modes.Tags limit other ask asked = asked
-out_asks refs modes.Skel limit other ask asked = asked
-out_asks refs modes.Body limit other ask asked = asked
-out_asks refs modes.Meta limit other ask asked = asked
+pub out_asks : (p : Publication) (refs : List Ref) (mode : OutMode) (limit : Option ℕ) → mode ≢ modes.Ids → (ask : Ask) → AskedByOut p refs mode limit ask → From (cut limit refs) (IsLineAsk p) ask
+out_asks p refs modes.Ids limit other ask asked = absurd (other refl)
+out_asks p refs modes.Tags limit other ask asked = asked
+out_asks p refs modes.Skel limit other ask asked = asked
+out_asks p refs modes.Body limit other ask asked = asked
+out_asks p refs modes.Meta limit other ask asked = asked
 
-pub asks_out : (refs : List Ref) (mode : OutMode) (limit : Option ℕ) → mode ≢ modes.Ids → (ask : Ask) → From (cut limit refs) IsObjectAsk ask → AskedByOut refs mode limit ask
-asks_out refs modes.Ids limit other ask asked = absurd (other refl)
-asks_out refs modes.Tags limit other ask asked = asked
-asks_out refs modes.Skel limit other ask asked = asked
-asks_out refs modes.Body limit other ask asked = asked
-asks_out refs modes.Meta limit other ask asked = asked
+pub asks_out : (p : Publication) (refs : List Ref) (mode : OutMode) (limit : Option ℕ) → mode ≢ modes.Ids → (ask : Ask) → From (cut limit refs) (IsLineAsk p) ask → AskedByOut p refs mode limit ask
+asks_out p refs modes.Ids limit other ask asked = absurd (other refl)
+asks_out p refs modes.Tags limit other ask asked = asked
+asks_out p refs modes.Skel limit other ask asked = asked
+asks_out p refs modes.Body limit other ask asked = asked
+asks_out p refs modes.Meta limit other ask asked = asked
 
 -- ---- one more line
 

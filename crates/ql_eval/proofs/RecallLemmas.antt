@@ -9,6 +9,7 @@ use Rattle.osm_model.specs.declared.kind.Kind.{Kind}
 use Rattle.osm_model.specs.declared.kind.Kind.TheVariants as kinds
 use Rattle.osm_model.specs.declared.reference.Ref.{Ref}
 use Rattle.osm_keys.proofs.shared.Members.{none}
+use Rattle.osm_keys.specs.Grains.{grain_of}
 use Rattle.osm_keys.specs.Publications.{Publication}
 use Rattle.tree_node.specs.Outcomes.{Cause, Outcome}
 use Rattle.tree_node.proofs.shared.OutcomeLaws.{Nodes, uses}
@@ -22,7 +23,7 @@ use Rattle.ref_sets.specs.Sets.{IsSetOf}
 use Rattle.ql_meaning.specs.Values.{IsIn, IsOnPath, IsRefOf, IsSelected, Passes}
 use Rattle.ql_plan.specs.Plans.{Planned, filters_in, rest_of}
 use Rattle.ql_eval.specs.Asks.{AskedByBase, AskedByPath, AskedByPlan, AskedByRest, AskedBySelect, AskedFor, IsCandidate, IsOfKindIn, IsPlanned, kind_picked}
-use Rattle.ql_eval.specs.Questions.{Ask, NeededBy, object_ask}
+use Rattle.ql_eval.specs.Questions.{Ask, NeededBy, line_ask}
 use Rattle.ql_eval.specs.Work.{HasNoClash, WorkByPlan, WorkOfSelect, read_by, read_by_all, step_cost}
 use Rattle.ql_eval.specs.declared.select_memo.AskedSelect.{AskedSelect}
 use Rattle.ql_eval.specs.declared.select_memo.RememberedSelect.{RememberedSelect}
@@ -108,31 +109,31 @@ module _ (one other : Env) where
 
   -- ---- what is asked
 
-  asked_by_base_as : (objects : List Element) (kind : Option Kind) (base : Option Filter) → AllByRecursion (Agree one other) (option_to_list base) → (ask : Ask)
-      → AskedByBase objects one kind base ask → AskedByBase objects other kind base ask
-  asked_by_base_as objects kind None all ask asked = asked
-  asked_by_base_as objects kind (Some (InSet name)) all ask asked = asked
-  asked_by_base_as objects kind (Some (HasKey key)) all ask asked = asked
-  asked_by_base_as objects kind (Some (KeyIs key value)) all ask asked = asked
-  asked_by_base_as objects kind (Some (LacksKey key)) all ask asked = asked
-  asked_by_base_as objects kind (Some (KeyIsNot key value)) all ask asked = asked
-  asked_by_base_as objects kind (Some (Ids ids)) all ask asked = asked
-  asked_by_base_as objects kind (Some (Within area)) all ask asked = asked
-  asked_by_base_as objects kind (Some (Via path name)) all ask asked = subst (λ (set : List Ref). AskedByPath objects set kind path ask) (named name all.0) asked
+  asked_by_base_as : (p : Publication) (kind : Option Kind) (base : Option Filter) → AllByRecursion (Agree one other) (option_to_list base) → (ask : Ask)
+      → AskedByBase p one kind base ask → AskedByBase p other kind base ask
+  asked_by_base_as p kind None all ask asked = asked
+  asked_by_base_as p kind (Some (InSet name)) all ask asked = asked
+  asked_by_base_as p kind (Some (HasKey key)) all ask asked = asked
+  asked_by_base_as p kind (Some (KeyIs key value)) all ask asked = asked
+  asked_by_base_as p kind (Some (LacksKey key)) all ask asked = asked
+  asked_by_base_as p kind (Some (KeyIsNot key value)) all ask asked = asked
+  asked_by_base_as p kind (Some (Ids ids)) all ask asked = asked
+  asked_by_base_as p kind (Some (Within area)) all ask asked = asked
+  asked_by_base_as p kind (Some (Via path name)) all ask asked = subst (λ (set : List Ref). AskedByPath p set kind path ask) (named name all.0) asked
 
-  asked_by_rest_as : (filter : Filter) → Agree one other filter → (ask : Ask) → AskedByRest one filter ask → AskedByRest other filter ask
-  asked_by_rest_as (InSet name) e ask asked = asked
-  asked_by_rest_as (HasKey key) e ask asked = asked
-  asked_by_rest_as (KeyIs key value) e ask asked = asked
-  asked_by_rest_as (LacksKey key) e ask asked = asked
-  asked_by_rest_as (KeyIsNot key value) e ask asked = asked
-  asked_by_rest_as (Ids ids) e ask asked = asked
-  asked_by_rest_as (Within area) e ask asked = asked
-  asked_by_rest_as (Via paths.W name) e ask asked = subst (λ (set : List Ref). AskedFor (IsOfKindIn set kinds.Way) object_ask ask) (named name e) asked
-  asked_by_rest_as (Via paths.R name) e ask asked = subst (λ (set : List Ref). AskedFor (IsOfKindIn set kinds.Rel) object_ask ask) (named name e) asked
-  asked_by_rest_as (Via paths.Bn name) e ask asked = asked
-  asked_by_rest_as (Via paths.Bw name) e ask asked = asked
-  asked_by_rest_as (Via paths.Br name) e ask asked = asked
+  asked_by_rest_as : (p : Publication) (filter : Filter) → Agree one other filter → (ask : Ask) → AskedByRest p one filter ask → AskedByRest p other filter ask
+  asked_by_rest_as p (InSet name) e ask asked = asked
+  asked_by_rest_as p (HasKey key) e ask asked = asked
+  asked_by_rest_as p (KeyIs key value) e ask asked = asked
+  asked_by_rest_as p (LacksKey key) e ask asked = asked
+  asked_by_rest_as p (KeyIsNot key value) e ask asked = asked
+  asked_by_rest_as p (Ids ids) e ask asked = asked
+  asked_by_rest_as p (Within area) e ask asked = asked
+  asked_by_rest_as p (Via paths.W name) e ask asked = subst (λ (set : List Ref). AskedFor (IsOfKindIn set kinds.Way) (line_ask (grain_of p.edition)) ask) (named name e) asked
+  asked_by_rest_as p (Via paths.R name) e ask asked = subst (λ (set : List Ref). AskedFor (IsOfKindIn set kinds.Rel) (line_ask (grain_of p.edition)) ask) (named name e) asked
+  asked_by_rest_as p (Via paths.Bn name) e ask asked = asked
+  asked_by_rest_as p (Via paths.Bw name) e ask asked = asked
+  asked_by_rest_as p (Via paths.Br name) e ask asked = asked
 
   -- the base of a plan, and the others
   base_agrees : (plan : Planned) → AllByRecursion (Agree one other) (filters_in plan) → AllByRecursion (Agree one other) (option_to_list plan.base)
@@ -143,12 +144,12 @@ module _ (one other : Env) where
       let front = all_first (Agree one other) (plan.before ++ option_to_list plan.base) plan.after all in
       all_both (Agree one other) plan.before plan.after (all_first (Agree one other) plan.before (option_to_list plan.base) front) (all_second (Agree one other) (plan.before ++ option_to_list plan.base) plan.after all)
 
-  asked_by_plan_as : (objects : List Element) (pick : Pick) (plan : Planned) → AllByRecursion (Agree one other) (filters_in plan) → (ask : Ask)
-      → AskedByPlan objects one pick plan ask → AskedByPlan objects other pick plan ask
-  asked_by_plan_as objects pick plan all ask (inl base) = inl (asked_by_base_as objects (kind_picked pick) plan.base (base_agrees plan all) ask base)
-  asked_by_plan_as objects pick plan all ask (inr (inl (filter, among, asked))) =
-      inr (inl (filter, among, asked_by_rest_as filter (agree_at one other (rest_of plan) filter (rest_agrees plan all) among) ask asked))
-  asked_by_plan_as objects pick plan all ask (inr (inr (some, (r, is, e)))) = inr (inr (some, (r, refs_as objects pick (option_to_list plan.base) (base_agrees plan all) r is, e)))
+  asked_by_plan_as : (p : Publication) (pick : Pick) (plan : Planned) → AllByRecursion (Agree one other) (filters_in plan) → (ask : Ask)
+      → AskedByPlan p one pick plan ask → AskedByPlan p other pick plan ask
+  asked_by_plan_as p pick plan all ask (inl base) = inl (asked_by_base_as p (kind_picked pick) plan.base (base_agrees plan all) ask base)
+  asked_by_plan_as p pick plan all ask (inr (inl (filter, among, asked))) =
+      inr (inl (filter, among, asked_by_rest_as p filter (agree_at one other (rest_of plan) filter (rest_agrees plan all) among) ask asked))
+  asked_by_plan_as p pick plan all ask (inr (inr (some, (r, is, e)))) = inr (inr (some, (r, refs_as p.objects pick (option_to_list plan.base) (base_agrees plan all) r is, e)))
 
   module _ (p : Publication) (pick : Pick) (filters : List Filter) (all : AllByRecursion (Agree one other) filters) where
     in_plan : (plan : Planned) → IsPlanned p (kind_picked pick) filters plan → AllByRecursion (Agree one other) (filters_in plan)
@@ -156,7 +157,7 @@ module _ (one other : Env) where
 
     asked_as : (ask : Ask) → AskedBySelect p one pick filters ask → AskedBySelect p other pick filters ask
     asked_as ask (inl choice) = inl choice
-    asked_as ask (inr (plan, is, asked)) = inr (plan, is, asked_by_plan_as p.objects pick plan (in_plan plan is) ask asked)
+    asked_as ask (inr (plan, is, asked)) = inr (plan, is, asked_by_plan_as p pick plan (in_plan plan is) ask asked)
 
   -- ---- what is done
 

@@ -87,38 +87,44 @@ module _ (p : Publication) (set ways relations : List Ref)
   way_below o way named of_kind ((listed, between), there) =
       subst (λ (s : Ref). IsWayBelow objects set s) (sym named) (of_kind, below_of objects set kinds.Rel relations relations_are way listed there)
 
-  ways_ask : (ask : Ask) → IsBelowAsk objects ways kinds.Node kinds.Rel ask → AskedByRecursion objects recursions.Down set ask
+  ways_ask : (ask : Ask) → IsBelowAsk p ways kinds.Node kinds.Rel ask → AskedByRecursion p recursions.Down set ask
   ways_ask ask (inl (way, among, (other, e))) = inl (way, (((ways_are way).0 among).0, other), e)
   ways_ask ask (inr (r, ((way, among, (o, there, named, lists)), between), e)) = inr (inl (r, (o, there, one_of_set objects set kinds.Way ways ways_are o way named among, lists), e))
 
-  pub ways_need : (x : List ℕ) → NeededBy p (IsBelowAsk objects ways kinds.Node kinds.Rel) x → NeededBy p (AskedByRecursion objects recursions.Down set) x
+  pub ways_need : (x : List ℕ) → NeededBy p (IsBelowAsk p ways kinds.Node kinds.Rel) x → NeededBy p (AskedByRecursion p recursions.Down set) x
   ways_need = needed_as ways_ask
 
-  members_ask : (ask : Ask) → IsMemberAsk objects relations ask → AskedByRecursion objects recursions.Down set ask
+  members_ask : (ask : Ask) → IsMemberAsk p relations ask → AskedByRecursion p recursions.Down set ask
   members_ask ask (inl (inl (r, among, (other, e)))) = inl (r, (((relations_are r).0 among).0, other), e)
   members_ask ask (inl (inr (r, ((name, among, (o, there, named, lists)), between), e))) =
       inr (inr (inl (r, (no_relation r between, (o, there, one_of_set objects set kinds.Rel relations relations_are o name named among, lists)), e)))
-  members_ask ask (inr (r, (way, of_kind, below, (o, there, named, lists)), e)) = inr (inr (inr (r, (o, there, way_below o way named of_kind below, lists), e)))
+  members_ask ask (inr (inl (way, (of_kind, ((listed, between), there)), e))) =
+      inr (inr (inr (inl (way, (of_kind, below_of objects set kinds.Rel relations relations_are way listed there), e))))
+  members_ask ask (inr (inr (r, (way, of_kind, below, (o, there, named, lists)), e))) = inr (inr (inr (inr (r, (o, there, way_below o way named of_kind below, lists), e))))
 
-  pub members_need : (x : List ℕ) → NeededBy p (IsMemberAsk objects relations) x → NeededBy p (AskedByRecursion objects recursions.Down set) x
+  pub members_need : (x : List ℕ) → NeededBy p (IsMemberAsk p relations) x → NeededBy p (AskedByRecursion p recursions.Down set) x
   members_need = needed_as members_ask
 
-  down_ask : (ask : Ask) → AskedByRecursion objects recursions.Down set ask → IsBelowAsk objects ways kinds.Node kinds.Rel ask ⊎ IsMemberAsk objects relations ask
+  ways_below : (way : Ref) → way.kind ≡ kinds.Way → IsRefOf objects (IsBelow objects set kinds.Rel) way → IsBelowThere objects relations kinds.Node kinds.Way way
+  ways_below way of_kind below =
+      let so = of_below objects set kinds.Rel relations relations_are way below in
+      ((so.0, node_or_way way (λ is. let no : kinds.Way ≡ kinds.Rel = sym of_kind ∙ is in cc)), so.1)
+
+  down_ask : (ask : Ask) → AskedByRecursion p recursions.Down set ask → IsBelowAsk p ways kinds.Node kinds.Rel ask ⊎ IsMemberAsk p relations ask
   down_ask ask (inl (r, (in_set, other), e)) = at r.kind refl
     where
-      at : (kind : Kind) → r.kind ≡ kind → IsBelowAsk objects ways kinds.Node kinds.Rel ask ⊎ IsMemberAsk objects relations ask
+      at : (kind : Kind) → r.kind ≡ kind → IsBelowAsk p ways kinds.Node kinds.Rel ask ⊎ IsMemberAsk p relations ask
       at kinds.Node is = absurd (other is)
       at kinds.Way is = inl (inl (r, (ways_are r).1 (in_set, is), (other, e)))
       at kinds.Rel is = inr (inl (inl (r, (relations_are r).1 (in_set, is), (other, e))))
   down_ask ask (inr (inl (r, (o, there, has, lists), e))) = inl (inr (r, ((reference o, (ways_are (reference o)).1 has, (o, there, refl, lists)), all_kinds r), e))
   down_ask ask (inr (inr (inl (r, (other, (o, there, has, lists)), e)))) =
       inr (inl (inr (r, ((reference o, (relations_are (reference o)).1 has, (o, there, refl, lists)), node_or_way r other), e)))
-  down_ask ask (inr (inr (inr (r, (o, there, (of_kind, below), lists), e)))) =
-      let so = of_below objects set kinds.Rel relations relations_are (reference o) below in
-      let between : IsBetween kinds.Node kinds.Way (reference o) = node_or_way (reference o) (λ is. let no : kinds.Way ≡ kinds.Rel = sym of_kind ∙ is in cc) in
-      inr (inr (r, (reference o, of_kind, ((so.0, between), so.1), (o, there, refl, lists)), e))
+  down_ask ask (inr (inr (inr (inl (way, (of_kind, below), e))))) = inr (inr (inl (way, (of_kind, ways_below way of_kind below), e)))
+  down_ask ask (inr (inr (inr (inr (r, (o, there, (of_kind, below), lists), e))))) =
+      inr (inr (inr (r, (reference o, of_kind, ways_below (reference o) of_kind below, (o, there, refl, lists)), e)))
 
-  pub down_splits : (x : List ℕ) → NeededBy p (AskedByRecursion objects recursions.Down set) x → NeededBy p (IsBelowAsk objects ways kinds.Node kinds.Rel) x ⊎ NeededBy p (IsMemberAsk objects relations) x
+  pub down_splits : (x : List ℕ) → NeededBy p (AskedByRecursion p recursions.Down set) x → NeededBy p (IsBelowAsk p ways kinds.Node kinds.Rel) x ⊎ NeededBy p (IsMemberAsk p relations) x
   down_splits x needs = needed_or x (needed_as down_ask x needs)
 
   -- what was found is what `>` gives
@@ -166,18 +172,20 @@ module _ (p : Publication) (set ways relations : List Ref)
 
 module _ (p : Publication) (relations members ways : List Ref) (are : IsSetOf members (IsBelowThere p.objects relations kinds.Node kinds.Way))
     (ways_are : (r : Ref) → Contains ways r ↔ (Contains members r × (r.kind ≡ kinds.Way))) where
-  inner_ask : (ask : Ask) → IsBelowAsk p.objects ways kinds.Node kinds.Rel ask → IsMemberAsk p.objects relations ask
-  inner_ask ask (inl (way, among, (other, e))) = let (listed, there) = (are.members way).0 ((ways_are way).0 among).0 in inl (inr (way, listed, e))
-  inner_ask ask (inr (r, ((way, among, listed), between), e)) = let so = (ways_are way).0 among in inr (r, (way, so.1, (are.members way).0 so.0, listed), e)
+  inner_ask : (ask : Ask) → IsBelowAsk p ways kinds.Node kinds.Rel ask → IsMemberAsk p relations ask
+  inner_ask ask (inl (way, among, (other, e))) = let so = (ways_are way).0 among in inr (inl (way, (so.1, (are.members way).0 so.0), e))
+  inner_ask ask (inr (r, ((way, among, listed), between), e)) = let so = (ways_are way).0 among in inr (inr (r, (way, so.1, (are.members way).0 so.0, listed), e))
 
-  pub inner_needs : (x : List ℕ) → NeededBy p (IsBelowAsk p.objects ways kinds.Node kinds.Rel) x → NeededBy p (IsMemberAsk p.objects relations) x
+  pub inner_needs : (x : List ℕ) → NeededBy p (IsBelowAsk p ways kinds.Node kinds.Rel) x → NeededBy p (IsMemberAsk p relations) x
   inner_needs = needed_as inner_ask
 
-  member_ask : (ask : Ask) → IsMemberAsk p.objects relations ask → IsBelowAsk p.objects relations kinds.Node kinds.Way ask ⊎ IsBelowAsk p.objects ways kinds.Node kinds.Rel ask
+  member_ask : (ask : Ask) → IsMemberAsk p relations ask → IsBelowAsk p relations kinds.Node kinds.Way ask ⊎ IsBelowAsk p ways kinds.Node kinds.Rel ask
   member_ask ask (inl below) = inl below
-  member_ask ask (inr (r, (way, of_kind, below, listed), e)) = inr (inr (r, ((way, (ways_are way).1 ((are.members way).1 below, of_kind), listed), all_kinds r), e))
+  member_ask ask (inr (inl (way, (of_kind, below), e))) =
+      inr (inl (way, (ways_are way).1 ((are.members way).1 below, of_kind), ((λ node. let no : kinds.Way ≡ kinds.Node = sym of_kind ∙ node in cc), e)))
+  member_ask ask (inr (inr (r, (way, of_kind, below, listed), e))) = inr (inr (r, ((way, (ways_are way).1 ((are.members way).1 below, of_kind), listed), all_kinds r), e))
 
-  pub members_split : (x : List ℕ) → NeededBy p (IsMemberAsk p.objects relations) x → NeededBy p (IsBelowAsk p.objects relations kinds.Node kinds.Way) x ⊎ NeededBy p (IsBelowAsk p.objects ways kinds.Node kinds.Rel) x
+  pub members_split : (x : List ℕ) → NeededBy p (IsMemberAsk p relations) x → NeededBy p (IsBelowAsk p relations kinds.Node kinds.Way) x ⊎ NeededBy p (IsBelowAsk p ways kinds.Node kinds.Rel) x
   members_split x needs = needed_or x (needed_as member_ask x needs)
 
   -- the ways are there
@@ -199,7 +207,7 @@ module _ (p : Publication) (relations members ways : List Ref) (are : IsSetOf me
 -- ---- `<`
 
 pub children_need : (p : Publication) (set children : List Ref) → ((r : Ref) → Contains children r ↔ (Contains set r × IsBetween kinds.Node kinds.Way r)) → (x : List ℕ) → NeededBy p (From children (IsBackAsk None)) x
-    → NeededBy p (AskedByRecursion p.objects recursions.Up set) x
+    → NeededBy p (AskedByRecursion p recursions.Up set) x
 children_need p set children are = needed_as (λ ask (name, among, e). let (in_set, between) = (are name).0 among in inl (name, (in_set, no_relation name between), e))
 
 module _ (p : Publication) (set children refs ways : List Ref) (children_are : (r : Ref) → Contains children r ↔ (Contains set r × IsBetween kinds.Node kinds.Way r))
@@ -234,17 +242,17 @@ module _ (p : Publication) (set children refs ways : List Ref) (children_are : (
         at o child parent in_set other kinds.Way is = inr (inl (child, parent, is, in_set))
         at o child parent in_set other kinds.Rel is = absurd (other is)
 
-    outer_ask : (ask : Ask) → From ways (IsBackAsk None) ask → AskedByRecursion p.objects recursions.Up set ask
+    outer_ask : (ask : Ask) → From ways (IsBackAsk None) ask → AskedByRecursion p recursions.Up set ask
     outer_ask ask (name, among, e) = let so = (ways_are name).0 among in inr (name, (so.1, listed_up name so.0), e)
 
-    up_ask : (ask : Ask) → AskedByRecursion p.objects recursions.Up set ask → From children (IsBackAsk None) ask ⊎ From ways (IsBackAsk None) ask
+    up_ask : (ask : Ask) → AskedByRecursion p recursions.Up set ask → From children (IsBackAsk None) ask ⊎ From ways (IsBackAsk None) ask
     up_ask ask (inl (r, (in_set, other), e)) = inl (r, (children_are r).1 (in_set, node_or_way r other), e)
     up_ask ask (inr (r, (of_kind, up), e)) = inr (r, up_way r of_kind up, e)
 
-    pub outer_needs : (x : List ℕ) → NeededBy p (From ways (IsBackAsk None)) x → NeededBy p (AskedByRecursion p.objects recursions.Up set) x
+    pub outer_needs : (x : List ℕ) → NeededBy p (From ways (IsBackAsk None)) x → NeededBy p (AskedByRecursion p recursions.Up set) x
     outer_needs = needed_as outer_ask
 
-    pub up_splits : (x : List ℕ) → NeededBy p (AskedByRecursion p.objects recursions.Up set) x → NeededBy p (From children (IsBackAsk None)) x ⊎ NeededBy p (From ways (IsBackAsk None)) x
+    pub up_splits : (x : List ℕ) → NeededBy p (AskedByRecursion p recursions.Up set) x → NeededBy p (From children (IsBackAsk None)) x ⊎ NeededBy p (From ways (IsBackAsk None)) x
     up_splits x needs = needed_or x (needed_as up_ask x needs)
 
     -- what lists such a way

@@ -37,13 +37,13 @@ module _ (p : Publication) (how : Recursion) (set : List Ref) where
 
   pub recalled_more : (refs : List Ref) (used later : Nodes) → ((x : List ℕ) → used x → later x) → IsRecalled p used how set refs → IsRecalled p later how set refs
   recalled_more refs used later grows is = elim is [
-    | inl clash ↦ inl (clash_more (NeededBy p (AskedByRecursion p.objects how set)) (NeededBy p (AskedByRecursion p.objects how set)) used later (λ x needs. needs) grows clash)
+    | inl clash ↦ inl (clash_more (NeededBy p (AskedByRecursion p how set)) (NeededBy p (AskedByRecursion p how set)) used later (λ x needs. needs) grows clash)
     | inr one ↦ inr (one.0, λ x needs. grows x (one.1 x needs))
   ]
 
   -- what is recalled is given once more, and nothing is used
   pub recalled_again : {A : Type 0} {held used : Nodes} (refs : List Ref) (value : A) (Is : A → Type 0) → (IsSetOf refs (IsRefOf p.objects (IsReached p.objects how set)) → Is value) → IsRecalled p used how set refs
-      → Outcome cause_of_evaluation Is (NeededBy p (AskedByRecursion p.objects how set)) (uses held used used) (Ok value)
+      → Outcome cause_of_evaluation Is (NeededBy p (AskedByRecursion p how set)) (uses held used used) (Ok value)
   recalled_again refs value Is shown recalled = record {
     ends = elim recalled [
       | inl clash ↦ inl clash

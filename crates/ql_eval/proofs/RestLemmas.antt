@@ -15,7 +15,7 @@ use Rattle.ref_sets.specs.Adding.{From}
 use Rattle.ref_sets.specs.NamedSets.{Env}
 use Rattle.ql_eval.specs.Asks.{AskedByRest}
 use Rattle.ql_eval.specs.Questions.{Ask, NeededBy}
-use Rattle.ql_eval.specs.internal.Links.{IsObjectAsk}
+use Rattle.ql_eval.specs.internal.Links.{IsLineAsk}
 use Rattle.ql_eval.specs.internal.Selecting.{IsTestAsk}
 use Rattle.ql_eval.proofs.EachLemmas.{needed_as, needed_or}
 
@@ -61,19 +61,19 @@ module _ (Asks : tree.Filter → Ask → Type 0) {p : Publication} (first second
       ]
 
 module _ {p : Publication} (env : Env) (rest : List tree.Filter) (candidates : List Ref) where
-  pub objects_test : rest ≢ [] → (x : List ℕ) → NeededBy p (From candidates IsObjectAsk) x → NeededBy p (IsTestAsk env rest candidates) x
+  pub objects_test : rest ≢ [] → (x : List ℕ) → NeededBy p (From candidates (IsLineAsk p)) x → NeededBy p (IsTestAsk p env rest candidates) x
   objects_test some = needed_as (λ ask (r, has, e). inr (some, (r, has, e)))
 
-  pub filters_test : (x : List ℕ) → NeededBy p (From rest (AskedByRest env)) x → NeededBy p (IsTestAsk env rest candidates) x
+  pub filters_test : (x : List ℕ) → NeededBy p (From rest (AskedByRest p env)) x → NeededBy p (IsTestAsk p env rest candidates) x
   filters_test = needed_as (λ ask asked. inl asked)
 
-  pub test_split : (x : List ℕ) → NeededBy p (IsTestAsk env rest candidates) x → NeededBy p (From candidates IsObjectAsk) x ⊎ NeededBy p (From rest (AskedByRest env)) x
+  pub test_split : (x : List ℕ) → NeededBy p (IsTestAsk p env rest candidates) x → NeededBy p (From candidates (IsLineAsk p)) x ⊎ NeededBy p (From rest (AskedByRest p env)) x
   test_split x needs = elim (needed_or x needs) [
     | inl of ↦ inr of
     | inr of ↦ inl (needed_as (λ ask asked. asked.1) x of)
   ]
 
-  pub nothing_tested : rest ≡ [] → (x : List ℕ) → NeededBy p (IsTestAsk env rest candidates) x → ⊥
+  pub nothing_tested : rest ≡ [] → (x : List ℕ) → NeededBy p (IsTestAsk p env rest candidates) x → ⊥
   nothing_tested empty x needs = elim needs.asked [
     | inl of ↦ none of.0 (subst (λ (fs : List tree.Filter). Contains fs of.0) empty of.1)
     | inr of ↦ of.0 empty

@@ -49,7 +49,7 @@ base_lawful pick before (Some base) after all filter e =
 -- how left-over filters are tested, with what is known then, and how a plan is chosen
 abbrev pub TestedWell : Publication → Env → List Filter → List Ref → Type 0 → ShelfUse → Result (List Ref) EvalFault → Type 0
 TestedWell p env rest candidates Known shelf result =
-    Outcome cause_of_evaluation (λ refs. IsSetOf refs (λ r. Contains candidates r × IsKeptBy p.objects env rest r) × Known) (NeededBy p (IsTestAsk env rest candidates)) shelf result
+    Outcome cause_of_evaluation (λ refs. IsSetOf refs (λ r. Contains candidates r × IsKeptBy p.objects env rest r) × Known) (NeededBy p (IsTestAsk p env rest candidates)) shelf result
 
 abbrev pub PlannedWell : Publication → Option Kind → List Filter → ShelfUse → Result Planned EvalFault → Type 0
 PlannedWell p kind filters shelf result = Outcome cause_of_evaluation (IsPlanned p kind filters) (NeededBy p (AskedByChoice kind filters)) shelf result
@@ -96,23 +96,23 @@ module _ (objects : List Element) (set : IsObjectSet objects) (env : Env) (pick 
 -- ---- what is asked
 
 module _ (p : Publication) (env : Env) (pick : Pick) (plan : Planned) where
-  pub base_asks : (x : List ℕ) → NeededBy p (AskedByBase p.objects env (kind_picked pick) plan.base) x → NeededBy p (AskedByPlan p.objects env pick plan) x
+  pub base_asks : (x : List ℕ) → NeededBy p (AskedByBase p env (kind_picked pick) plan.base) x → NeededBy p (AskedByPlan p env pick plan) x
   base_asks = needed_as (λ ask asked. inl asked)
 
   module _ (found : List Ref) (are : IsSetOf found (IsCandidate p.objects env pick plan)) where
-    test_ask : (ask : Ask) → IsTestAsk env (plan.before ++ plan.after) found ask → AskedByPlan p.objects env pick plan ask
+    test_ask : (ask : Ask) → IsTestAsk p env (plan.before ++ plan.after) found ask → AskedByPlan p env pick plan ask
     test_ask ask (inl one) = inr (inl one)
     test_ask ask (inr (some, (r, among, e))) = inr (inr (some, (r, (are.members r).0 among, e)))
 
-    pub tests_ask : (x : List ℕ) → NeededBy p (IsTestAsk env (plan.before ++ plan.after) found) x → NeededBy p (AskedByPlan p.objects env pick plan) x
+    pub tests_ask : (x : List ℕ) → NeededBy p (IsTestAsk p env (plan.before ++ plan.after) found) x → NeededBy p (AskedByPlan p env pick plan) x
     tests_ask = needed_as test_ask
 
-    plan_ask : (ask : Ask) → AskedByPlan p.objects env pick plan ask → AskedByBase p.objects env (kind_picked pick) plan.base ask ⊎ IsTestAsk env (plan.before ++ plan.after) found ask
+    plan_ask : (ask : Ask) → AskedByPlan p env pick plan ask → AskedByBase p env (kind_picked pick) plan.base ask ⊎ IsTestAsk p env (plan.before ++ plan.after) found ask
     plan_ask ask (inl base) = inl base
     plan_ask ask (inr (inl one)) = inr (inl one)
     plan_ask ask (inr (inr (some, (r, is, e)))) = inr (inr (some, (r, (are.members r).1 is, e)))
 
-    pub plan_splits : (x : List ℕ) → NeededBy p (AskedByPlan p.objects env pick plan) x → NeededBy p (AskedByBase p.objects env (kind_picked pick) plan.base) x ⊎ NeededBy p (IsTestAsk env (plan.before ++ plan.after) found) x
+    pub plan_splits : (x : List ℕ) → NeededBy p (AskedByPlan p env pick plan) x → NeededBy p (AskedByBase p env (kind_picked pick) plan.base) x ⊎ NeededBy p (IsTestAsk p env (plan.before ++ plan.after) found) x
     plan_splits x needs = needed_or x (needed_as plan_ask x needs)
 
 -- ---- the plan that is chosen
@@ -123,12 +123,12 @@ module _ (p : Publication) (env : Env) (pick : Pick) (filters : List Filter) whe
 
   module _ (one : (first second : Planned) → IsPlanned p (kind_picked pick) filters first → IsPlanned p (kind_picked pick) filters second → first ≡ second)
       (plan : Planned) (is : IsPlanned p (kind_picked pick) filters plan) where
-    pub chosen_asks : (x : List ℕ) → NeededBy p (AskedByPlan p.objects env pick plan) x → NeededBy p (AskedBySelect p env pick filters) x
+    pub chosen_asks : (x : List ℕ) → NeededBy p (AskedByPlan p env pick plan) x → NeededBy p (AskedBySelect p env pick filters) x
     chosen_asks = needed_as (λ ask asked. inr (plan, is, asked))
 
-    select_ask : (ask : Ask) → AskedBySelect p env pick filters ask → AskedByChoice (kind_picked pick) filters ask ⊎ AskedByPlan p.objects env pick plan ask
+    select_ask : (ask : Ask) → AskedBySelect p env pick filters ask → AskedByChoice (kind_picked pick) filters ask ⊎ AskedByPlan p env pick plan ask
     select_ask ask (inl choice) = inl choice
-    select_ask ask (inr (other, is_too, asked)) = inr (subst (λ (q : Planned). AskedByPlan p.objects env pick q ask) (one other plan is_too is) asked)
+    select_ask ask (inr (other, is_too, asked)) = inr (subst (λ (q : Planned). AskedByPlan p env pick q ask) (one other plan is_too is) asked)
 
-    pub select_splits : (x : List ℕ) → NeededBy p (AskedBySelect p env pick filters) x → NeededBy p (AskedByChoice (kind_picked pick) filters) x ⊎ NeededBy p (AskedByPlan p.objects env pick plan) x
+    pub select_splits : (x : List ℕ) → NeededBy p (AskedBySelect p env pick filters) x → NeededBy p (AskedByChoice (kind_picked pick) filters) x ⊎ NeededBy p (AskedByPlan p env pick plan) x
     select_splits x needs = needed_or x (needed_as select_ask x needs)

@@ -32,16 +32,16 @@ one_both first second m n a b =
 one_of_set : {P : Ref → Type 0} {Work : List Ref → ℕ → Type 0} → ((set : List Ref) → IsOne (Work set)) → IsOne (OfSet P Work)
 one_of_set {Work = Work} one m n a b = one b.set m n (subst (λ (s : List Ref). Work s m) (one_set a.set b.set a.is_set b.is_set) a.work) b.work
 
-one_of_base : (objects : List Element) (base : Option Filter) → IsOne (WorkOfBase objects base)
-one_of_base objects None = one_steps 0
-one_of_base objects (Some (InSet name)) = one_steps 0
-one_of_base objects (Some (HasKey key)) = one_of_set (λ found. one_steps (length found))
-one_of_base objects (Some (KeyIs key value)) = one_steps 0
-one_of_base objects (Some (LacksKey key)) = one_steps 0
-one_of_base objects (Some (KeyIsNot key value)) = one_steps 0
-one_of_base objects (Some (Ids ids)) = one_steps 0
-one_of_base objects (Some (Within area)) = one_of_set (λ found. one_steps (length found))
-one_of_base objects (Some (Via path name)) = one_steps 0
+one_of_base : (p : Publication) (base : Option Filter) → IsOne (WorkOfBase p base)
+one_of_base p None = one_steps 0
+one_of_base p (Some (InSet name)) = one_steps 0
+one_of_base p (Some (HasKey key)) = one_of_set (λ found. one_steps (length found))
+one_of_base p (Some (KeyIs key value)) = one_steps 0
+one_of_base p (Some (LacksKey key)) = one_steps 0
+one_of_base p (Some (KeyIsNot key value)) = one_steps 0
+one_of_base p (Some (Ids ids)) = one_steps 0
+one_of_base p (Some (Within area)) = one_of_set (λ found. one_steps (length found))
+one_of_base p (Some (Via path name)) = one_steps 0
 
 one_of_plan : {Work : Planned → ℕ → Type 0} (p : Publication) (kind : Option Kind) (filters : List Filter) → ((plan : Planned) → IsOne (Work plan)) → IsOne (OfPlan p kind filters Work)
 one_of_plan {Work = Work} p kind filters one m n a b = one b.plan m n (subst (λ (q : Planned). Work q m) (one_planned p kind filters a.plan b.plan a.is_planned b.is_planned) a.work) b.work
@@ -56,7 +56,7 @@ one_row {Rest = Rest} objects statement env first rest =
 
 mutual
   pub work_once : (tell : Telling) (p : Publication) (statement : Statement) (env : Env) → IsOne (WorkOf tell p statement env)
-  work_once tell p (Select pick filters into) env = one_both (one_steps _) (one_of_plan p _ filters (λ plan. one_both (one_of_base p.objects plan.base) (one_of_set (λ found. one_steps _))))
+  work_once tell p (Select pick filters into) env = one_both (one_steps _) (one_of_plan p _ filters (λ plan. one_both (one_of_base p plan.base) (one_of_set (λ found. one_steps _))))
   work_once tell p (Recurse start how into) env = one_steps (length (env start))
   work_once tell p (Item start into) env = one_steps 0
   work_once tell p (Union parts into) env = all_once tell p parts env

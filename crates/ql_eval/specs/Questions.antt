@@ -1,7 +1,9 @@
 -- What an evaluation asks the trees of a publication: questions, the ranges of keys that each asks for, and the objects
 -- that it is after.
 -- Source: this project's evaluation, docs/FORMATS.md.
+use Rattle.std.specs.List.{Contains}
 use Rattle.std.specs.Prelude.{◌≡◌, ℕ, List, Option}
+use Rattle.osm_model.specs.CanonicalLine.{canonical_line}
 use Rattle.osm_model.specs.Elements.{Element, kind_of, reference}
 use Rattle.osm_model.specs.Membership.{BodyLists}
 use Rattle.osm_model.specs.Tagged.{HasKeyOf, HasTag}
@@ -12,20 +14,29 @@ use Rattle.tree_node.specs.declared.tree.Tree.TheVariants.{Objects, Tags, Backs}
 use Rattle.tree_walk.specs.Choices.{IsCount}
 use Rattle.tree_walk.specs.Ranges.{Range}
 use Rattle.tree_walk.specs.Walks.{IsEntryIn, IsMet, IsMetCounted}
+use Rattle.osm_keys.specs.Grains.{Grain, Lines, Whole, grain_of}
 use Rattle.osm_keys.specs.Publications.{Publication, tree_in}
 use Rattle.osm_keys.specs.Ranges.{IsKindOf, back_range, kind_range, object_range, tag_key_range, tag_range}
 
 -- ---- what is asked for
 
--- all entries of a tree in a range of keys, or their number alone
+-- all entries of a tree in a range of keys, or their number alone; or a line
 pub data Ask : Type 0 where
   Listed : Tree → Range → Ask
   Counted : Tree → Range → Ask
+  -- the line of an object, where it is a node of its own
+  LineOf : Ref → Ask
+
+-- the node is the line of the object with this reference
+abbrev pub IsLineOf : Grain → List Element → Ref → List ℕ → Type 0
+IsLineOf Whole objects r bytes = ⊥
+IsLineOf Lines objects r bytes = (o : Element) × Contains objects o × (reference o ≡ r) × (bytes ≡ canonical_line o)
 
 -- the node is one that the ask needs
 abbrev pub NeedsAsk : Publication → Ask → List ℕ → Type 0
 NeedsAsk p (Listed tree range) bytes = IsMet range (tree_in p tree) bytes
 NeedsAsk p (Counted tree range) bytes = IsMetCounted range (tree_in p tree) bytes
+NeedsAsk p (LineOf r) bytes = IsLineOf (grain_of p.edition) p.objects r bytes
 
 -- the node is one that some of these asks needs
 pub record NeededBy (p : Publication) (Asks : Ask → Type 0) (bytes : List ℕ) : Type 0 where
@@ -33,9 +44,15 @@ pub record NeededBy (p : Publication) (Asks : Ask → Type 0) (bytes : List ℕ)
   pub asked : Asks ask
   pub needs : NeedsAsk p ask bytes
 
--- one object
+-- whether one object is there
 abbrev pub object_ask : Ref → Ask
 object_ask r = Listed Objects (object_range r)
+
+-- the line of an object that an entry has named, so that it is there: it is looked up in the object tree, or it is a node that
+-- the entry's digest names
+abbrev pub line_ask : Grain → Ref → Ask
+line_ask Whole r = object_ask r
+line_ask Lines r = LineOf r
 
 -- ---- questions
 

@@ -13,9 +13,10 @@ use Rattle.osm_model.specs.declared.out_mode.OutMode.{OutMode}
 use Rattle.osm_model.specs.declared.reference.Ref.{Ref}
 use Rattle.tree_node.specs.Outcomes.{Clash}
 use Rattle.tree_walk.specs.Ranges.{IsIn, Range}
-use Rattle.osm_keys.specs.Keys.{cell_key}
+use Rattle.osm_keys.specs.BoxRanges.{AreBoxRanges}
+use Rattle.osm_keys.specs.Entries.{placed_key}
+use Rattle.osm_keys.specs.Grains.{Grain, grain_of}
 use Rattle.osm_keys.specs.Publications.{Publication, manifest_of}
-use Rattle.osm_keys.specs.Ranges.{AreCellRanges}
 use Rattle.ql_syntax.specs.Filters.{Filter, InSet, HasKey, KeyIs, LacksKey, KeyIsNot, Ids, Within, Via}
 use Rattle.ql_syntax.specs.Statements.{Statement, Statements, Select, Recurse, Item, Union, Minus, Print, End, Then}
 use Rattle.ql_syntax.specs.declared.pick.Pick.{Pick}
@@ -89,28 +90,28 @@ read_by_all env [] = 0
 read_by_all env (filter ∷ filters) = (1 + read_by env filter) + read_by_all env filters
 
 -- a node in one of the cells that the box meets, whether it lies in the box or beside it
-abbrev pub IsInCellsOf : ExactBox → Element → Type 0
-IsInCellsOf area o =
-    (ranges : List Range) × AreCellRanges area ranges
-    × ((range : Range) × (place : Place) × Contains ranges range × (o.body ≡ bodies.Node place) × IsIn range (cell_key place o.id))
+abbrev pub IsInCellsOf : Grain → ExactBox → Element → Type 0
+IsInCellsOf grain area o =
+    (ranges : List Range) × AreBoxRanges grain area ranges
+    × ((range : Range) × (place : Place) × Contains ranges range × (o.body ≡ bodies.Node place) × IsIn range (placed_key grain place o.id))
 
 -- what a base reads, of which the candidates are a part: by a key alone, the objects of all kinds that have it; in a box, the
 -- nodes in the cells that the box meets. Where all that is read is a candidate, it counts as such alone
-abbrev pub WorkOfBase : List Element → Option Filter → ℕ → Type 0
-WorkOfBase objects None n = Steps 0 n
-WorkOfBase objects (Some (InSet name)) n = Steps 0 n
-WorkOfBase objects (Some (HasKey key)) n = OfSet (IsRefOf objects (λ o. HasKeyOf o key)) (λ found. Steps (length found)) n
-WorkOfBase objects (Some (KeyIs key value)) n = Steps 0 n
-WorkOfBase objects (Some (LacksKey key)) n = Steps 0 n
-WorkOfBase objects (Some (KeyIsNot key value)) n = Steps 0 n
-WorkOfBase objects (Some (Ids ids)) n = Steps 0 n
-WorkOfBase objects (Some (Within area)) n = OfSet (IsRefOf objects (IsInCellsOf area)) (λ found. Steps (length found)) n
-WorkOfBase objects (Some (Via path name)) n = Steps 0 n
+abbrev pub WorkOfBase : Publication → Option Filter → ℕ → Type 0
+WorkOfBase p None n = Steps 0 n
+WorkOfBase p (Some (InSet name)) n = Steps 0 n
+WorkOfBase p (Some (HasKey key)) n = OfSet (IsRefOf p.objects (λ o. HasKeyOf o key)) (λ found. Steps (length found)) n
+WorkOfBase p (Some (KeyIs key value)) n = Steps 0 n
+WorkOfBase p (Some (LacksKey key)) n = Steps 0 n
+WorkOfBase p (Some (KeyIsNot key value)) n = Steps 0 n
+WorkOfBase p (Some (Ids ids)) n = Steps 0 n
+WorkOfBase p (Some (Within area)) n = OfSet (IsRefOf p.objects (IsInCellsOf (grain_of p.edition) area)) (λ found. Steps (length found)) n
+WorkOfBase p (Some (Via path name)) n = Steps 0 n
 
 -- a query statement by a plan: what its base reads, a step for each candidate, and one for each filter that
 -- it is tested by
 abbrev pub WorkByPlan : Publication → Env → Pick → Planned → ℕ → Type 0
-WorkByPlan p env pick plan n = Both (WorkOfBase p.objects plan.base) (OfSet (IsCandidate p.objects env pick plan) (λ found. Steps (length found * (1 + length (rest_of plan))))) n
+WorkByPlan p env pick plan n = Both (WorkOfBase p plan.base) (OfSet (IsCandidate p.objects env pick plan) (λ found. Steps (length found * (1 + length (rest_of plan))))) n
 
 -- what its filters read, and then what its plan does
 abbrev pub WorkOfSelect : Publication → Env → Pick → List Filter → ℕ → Type 0

@@ -40,7 +40,7 @@ pub(crate) fn afford_base<W: Source>(
         (p : Publication) (env : Env) → IsPublication p → W.reads source.old p
         → ForSome filter (Allows pick)
         → Within cause_of_evaluation (λ _. ⊤)
-        (NeededBy p (AskedByBase p.objects env (kind_picked pick) filter))
+        (NeededBy p (AskedByBase p env (kind_picked pick) filter))
         (nodes_around W.holds W.used source.old source.new) result }
     ensures bounded { let filter = option_map (λ f. filter_of f.now) base.entry in
         (p : Publication) (env : Env) → IsPublication p → W.reads source.old p
@@ -71,7 +71,7 @@ fn count_base<W: Source>(
         (p : Publication) (env : Env) → IsPublication p → W.reads source.old p
         → ForSome filter (Allows pick)
         → Within cause_of_evaluation (IsPartOf (WorkOfFinding p env pick filter))
-        (NeededBy p (AskedByBase p.objects env (kind_picked pick) filter))
+        (NeededBy p (AskedByBase p env (kind_picked pick) filter))
         (nodes_around W.holds W.used source.old source.new) result }
 {
     match base {
@@ -108,7 +108,7 @@ fn count_kept<W: Source>(source: &mut W, pick: Pick, filter: &Filter<'_>) -> Res
         (p : Publication) (env : Env) → IsPublication p → W.reads source.old p
         → Allows pick (filter_of filter.now)
         → Within cause_of_evaluation (IsPartOf (WorkOfFinding p env pick base))
-        (NeededBy p (AskedByBase p.objects env (kind_picked pick) base))
+        (NeededBy p (AskedByBase p env (kind_picked pick) base))
         (nodes_around W.holds W.used source.old source.new) result }
 {
     match filter {

@@ -47,7 +47,7 @@ pub(crate) fn apply_filters<W: Source>(
         → EndsTruly W.holds W.used W.under source.old source.new p
         (λ refs. IsSetOf refs
         (λ r. Contains candidates r × IsKeptBy p.objects env filters r))
-        (NeededBy p (IsTestAsk env filters candidates)) result }
+        (NeededBy p (IsTestAsk p env filters candidates)) result }
 {
     if before.is_empty() && after.is_empty() {
         // For the proof alone: a set rises.
@@ -79,7 +79,7 @@ fn filter_by_both<W: Source>(
         → EndsTruly W.holds W.used W.under source.old source.new p
         (λ left. IsSetOf left
         (λ r. Contains refs r × IsNamedByAll p.objects env filters r))
-        (NeededBy p (From filters (AskedByRest env))) result }
+        (NeededBy p (From filters (AskedByRest p env))) result }
 {
     let left = filter_by_reference(alloc, source, refs, before, sets)?;
     filter_by_reference(alloc, source, left, after, sets)

@@ -11,6 +11,7 @@ ghost use Rattle.tree_walk.specs.Ranges.{IsIn, Range, range_of};
 ghost use Rattle.tree_walk.specs.Uses.{nodes_around};
 ghost use Rattle.tree_walk.specs.Walks.{IsEntryIn};
 ghost use Rattle.tree_walk.specs.WalksGiven.{HasGiven};
+ghost use Rattle.osm_keys.specs.Grains.{grain_of};
 ghost use Rattle.osm_keys.specs.Manifests.{top_among};
 ghost use Rattle.osm_keys.specs.Publications.{IsPublication, Publication};
 ghost use Rattle.ql_meaning.specs.Values.{IsRefOf};
@@ -65,8 +66,9 @@ pub(crate) fn count_in_box<'a, S: Shelf<'a>>(
         tally.old.calls tally.new.calls tally.old.fetches tally.new.fetches) }
     ensures told { IfErr result (IsTrueUnder (S.holds shelf.new) (S.used shelf.new) manifest.now) }
     ensures answer { (p : Publication) → IsPublication p → IsUnder p manifest.now
-        → Within cause_of_evaluation (IsWithinSet (IsRefOf p.objects (IsInCellsOf area.now)))
-        (NeededBy p (IsAskedInBox area.now))
+        → Within cause_of_evaluation
+        (IsWithinSet (IsRefOf p.objects (IsInCellsOf (grain_of p.edition) area.now)))
+        (NeededBy p (IsAskedInBox p area.now))
         (nodes_around S.holds S.used shelf.old shelf.new) result }
 {
     let ranges = cell_ranges(alloc, area)?;

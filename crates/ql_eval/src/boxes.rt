@@ -6,6 +6,7 @@ ghost use Rattle.tree_node.specs.Outcomes.{Outcome};
 ghost use Rattle.tree_node.specs.Shelves.{Stays};
 ghost use Rattle.tree_node.specs.declared.tree.Tree.TheVariants.{Cells};
 ghost use Rattle.tree_walk.specs.WalksGiven.{HasGiven};
+ghost use Rattle.osm_keys.specs.Grains.{grain_of};
 ghost use Rattle.osm_keys.specs.Manifests.{top_among};
 ghost use Rattle.osm_keys.specs.Publications.{IsPublication, Publication};
 ghost use Rattle.ref_sets.specs.Sets.{IsSetOf};
@@ -68,12 +69,13 @@ pub(crate) fn find_in_box<'a, S: Shelf<'a>>(
     ensures answer { (p : Publication) → IsPublication p → IsUnder p manifest.now
         → Outcome cause_of_evaluation
         (λ found. IsSetOf found.nodes (IsRefOf p.objects (IsInBox area.now)))
-        (NeededBy p (IsAskedInBox area.now))
+        (NeededBy p (IsAskedInBox p area.now))
         (nodes_around S.holds S.used shelf.old shelf.new) result }
     ensures read { (p : Publication) → IsPublication p → IsUnder p manifest.now
         → Outcome cause_of_evaluation
-        (λ found. IsSizeOf (IsRefOf p.objects (IsInCellsOf area.now)) found.read)
-        (NeededBy p (IsAskedInBox area.now))
+        (λ found. IsSizeOf
+        (IsRefOf p.objects (IsInCellsOf (grain_of p.edition) area.now)) found.read)
+        (NeededBy p (IsAskedInBox p area.now))
         (nodes_around S.holds S.used shelf.old shelf.new) result }
 {
     let ranges = cell_ranges(alloc, area)?;

@@ -6,6 +6,7 @@ ghost use Rattle.std.specs.Option.{ForSome, option_map, option_to_list};
 ghost use Rattle.osm_model.specs.Limits.{HasNoNul};
 ghost use Rattle.osm_model.specs.Tagged.{HasKeyOf};
 ghost use Rattle.osm_model.specs.declared.reference.Ref.{Ref};
+ghost use Rattle.osm_keys.specs.Grains.{grain_of};
 ghost use Rattle.osm_keys.specs.Publications.{IsPublication, Publication};
 ghost use Rattle.osm_keys.specs.Ranges.{IsKindOf};
 ghost use Rattle.ql_syntax.specs.LawfulQueries.{Allows};
@@ -68,7 +69,7 @@ pub(crate) fn find_candidates<W: Source>(
         → EndsTruly W.holds W.used W.under source.old source.new p
         (λ refs. IsSetOf refs
         (IsRefOf p.objects (IsSelected p.objects env pick (option_to_list filter))))
-        (NeededBy p (AskedByBase p.objects env (kind_picked pick) filter)) result }
+        (NeededBy p (AskedByBase p env (kind_picked pick) filter)) result }
     // Where there is more to read than the budget allows, steps for candidates have been counted.
     ensures bounded { let env = lists_of sets.now.named.items in
         let filter = option_map (λ f. filter_of f.now) base.entry in
@@ -79,12 +80,12 @@ pub(crate) fn find_candidates<W: Source>(
         let filter = option_map (λ f. filter_of f.now) base.entry in
         (p : Publication) → IsPublication p → W.under source.old p → AreAllThere p.objects env
         → ForSome filter (Allows pick) → HasNoClash p (W.used source.new)
-        → IsBounded (WorkOfBase p.objects filter) meter.old.spent meter.new.spent) }
+        → IsBounded (WorkOfBase p filter) meter.old.spent meter.new.spent) }
     ensures spent { OnOk result (let env = lists_of sets.now.named.items in
         let filter = option_map (λ f. filter_of f.now) base.entry in
         (p : Publication) → IsPublication p → W.under source.old p → AreAllThere p.objects env
         → ForSome filter (Allows pick) → HasNoClash p (W.used source.new)
-        → IsSpent (WorkOfBase p.objects filter) meter.old.spent meter.new.spent) }
+        → IsSpent (WorkOfBase p filter) meter.old.spent meter.new.spent) }
 {
     let before = meter.spent;
     match read_base(alloc, source, meter, pick, base, sets) {
@@ -122,17 +123,17 @@ fn read_base<W: Source>(
         → EndsTruly W.holds W.used W.under source.old source.new p
         (λ refs. IsSetOf refs
         (IsRefOf p.objects (IsSelected p.objects env pick (option_to_list filter))))
-        (NeededBy p (AskedByBase p.objects env (kind_picked pick) filter)) result }
+        (NeededBy p (AskedByBase p env (kind_picked pick) filter)) result }
     ensures bounded { let env = lists_of sets.now.named.items in
         let filter = option_map (λ f. filter_of f.now) base.entry in
         (p : Publication) → IsPublication p → W.under source.old p → AreAllThere p.objects env
         → ForSome filter (Allows pick) → HasNoClash p (W.used source.new)
-        → IsBounded (WorkOfBase p.objects filter) meter.old.spent meter.new.spent }
+        → IsBounded (WorkOfBase p filter) meter.old.spent meter.new.spent }
     ensures spent { OnOk result (let env = lists_of sets.now.named.items in
         let filter = option_map (λ f. filter_of f.now) base.entry in
         (p : Publication) → IsPublication p → W.under source.old p → AreAllThere p.objects env
         → ForSome filter (Allows pick) → HasNoClash p (W.used source.new)
-        → IsSpent (WorkOfBase p.objects filter) meter.old.spent meter.new.spent) }
+        → IsSpent (WorkOfBase p filter) meter.old.spent meter.new.spent) }
 {
     match base {
         None => of_kinds(alloc, source, kinds_in(kind_of(pick)), meter.room()),
@@ -208,17 +209,17 @@ fn kept_by<W: Source>(
         → EndsTruly W.holds W.used W.under source.old source.new p
         (λ refs. IsSetOf refs
         (IsKeptOf p.objects env (kind_picked pick) (filter_of filter.now)))
-        (NeededBy p (AskedByBase p.objects env (kind_picked pick) (Some (filter_of filter.now))))
+        (NeededBy p (AskedByBase p env (kind_picked pick) (Some (filter_of filter.now))))
         result }
     ensures bounded { let env = lists_of sets.now.named.items in
         (p : Publication) → IsPublication p → W.under source.old p → AreAllThere p.objects env
         → Allows pick (filter_of filter.now) → HasNoClash p (W.used source.new)
-        → IsBounded (WorkOfBase p.objects (Some (filter_of filter.now)))
+        → IsBounded (WorkOfBase p (Some (filter_of filter.now)))
         meter.old.spent meter.new.spent }
     ensures spent { OnOk result (let env = lists_of sets.now.named.items in
         (p : Publication) → IsPublication p → W.under source.old p → AreAllThere p.objects env
         → Allows pick (filter_of filter.now) → HasNoClash p (W.used source.new)
-        → IsSpent (WorkOfBase p.objects (Some (filter_of filter.now)))
+        → IsSpent (WorkOfBase p (Some (filter_of filter.now)))
         meter.old.spent meter.new.spent) }
 {
     let kind = kind_of(pick);
@@ -326,14 +327,14 @@ fn in_box<W: Source>(
     ensures answer { (p : Publication) → IsPublication p → W.under source.old p
         → EndsTruly W.holds W.used W.under source.old source.new p
         (λ refs. IsSetOf refs (λ r. IsRefOf p.objects (IsInBox area.now) r × IsKindOf kind r))
-        (NeededBy p (IsAskedInBox area.now)) result }
+        (NeededBy p (IsAskedInBox p area.now)) result }
     ensures bounded { (p : Publication) → IsPublication p → W.under source.old p
         → HasNoClash p (W.used source.new)
-        → IsBounded (OfSet (IsRefOf p.objects (IsInCellsOf area.now))
+        → IsBounded (OfSet (IsRefOf p.objects (IsInCellsOf (grain_of p.edition) area.now))
         (λ found. Steps (length found))) meter.old.spent meter.new.spent }
     ensures spent { OnOk result ((p : Publication) → IsPublication p → W.under source.old p
         → HasNoClash p (W.used source.new)
-        → IsSpent (OfSet (IsRefOf p.objects (IsInCellsOf area.now))
+        → IsSpent (OfSet (IsRefOf p.objects (IsInCellsOf (grain_of p.edition) area.now))
         (λ found. Steps (length found))) meter.old.spent meter.new.spent) }
 {
     // Where the box goes round the earth a cell may be read twice.

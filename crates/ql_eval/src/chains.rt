@@ -52,7 +52,7 @@ pub(crate) fn closure<W: Source>(
         → AreThere p.objects from.now
         → EndsTruly W.holds W.used W.under source.old source.new p
         (λ refs. IsSetOf refs (IsEnd direction p.objects from.now))
-        (NeededBy p (IsEndAsk direction p.objects from.now)) result }
+        (NeededBy p (IsEndAsk direction p from.now)) result }
     ensures bounded { (p : Publication) → IsPublication p → W.under source.old p
         → AreThere p.objects from.now → HasNoClash p (W.used source.new)
         → IsBounded (OfSet (IsEnd direction p.objects from.now) (λ found. Steps (length found)))
@@ -89,7 +89,7 @@ fn one_link<W: Source>(
         → AreThere p.objects names.now
         → EndsTruly W.holds W.used W.under source.old source.new p
         (λ refs. IsSetOf refs (From names.now (Leads direction p.objects)))
-        (NeededBy p (From names.now (LeadsAsk direction p.objects))) result }
+        (NeededBy p (From names.now (LeadsAsk direction p))) result }
 {
     match direction {
         Direction::Down => members_there(alloc, source, names, Kind::Node, Kind::Rel),

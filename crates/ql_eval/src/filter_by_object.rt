@@ -8,7 +8,7 @@ ghost use Rattle.ref_sets.specs.Sets.{IsSetOf};
 ghost use Rattle.ref_sets.specs.NamedSets.{lists_of};
 ghost use Rattle.ql_eval.specs.Questions.{NeededBy};
 ghost use Rattle.ql_eval.specs.internal.Entries.{IsThere};
-ghost use Rattle.ql_eval.specs.internal.Links.{AreThere, IsObjectAsk};
+ghost use Rattle.ql_eval.specs.internal.Links.{AreThere, IsLineAsk};
 ghost use Rattle.ql_eval.specs.internal.Objects.{AreKnownThere, IsKnownThere};
 ghost use Rattle.ql_eval.specs.internal.Narrowing.{IsPassingAs, PassesAll, PassesItself, PassesPath};
 ghost use Rattle.ql_eval.specs.internal.Giving.{AllGiven};
@@ -47,7 +47,7 @@ pub(crate) fn filter_by_object<W: Source>(
         → EndsTruly W.holds W.used W.under source.old source.new p
         (λ refs. IsSetOf refs
         (From candidates.now (IsPassingAs p.objects env filters)))
-        (NeededBy p (From candidates.now IsObjectAsk)) result }
+        (NeededBy p (From candidates.now (IsLineAsk p))) result }
 {
     let mut refs = Vec::new(alloc);
     let names = candidates.as_slice();
@@ -79,7 +79,7 @@ fn add_passing<W: Source>(
         (p : Publication) → IsPublication p → W.under source.old p → IsThere p.objects name
         → EndsTruly W.holds W.used W.under source.old source.new p
         (λ _. Adds refs.old.items refs.new.items (IsPassingAs p.objects env filters name))
-        (NeededBy p (IsObjectAsk name)) result }
+        (NeededBy p (IsLineAsk p name)) result }
 {
     source.look_up(name)?;
     match source.known(name) {

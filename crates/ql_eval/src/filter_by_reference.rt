@@ -3,13 +3,14 @@
 ghost use Rattle.std.specs.Prelude.{◌≢◌, IfErr, IfOk, OnOk};
 ghost use Rattle.std.specs.List.{Contains};
 ghost use Rattle.osm_model.specs.declared.kind.Kind.TheVariants as kinds;
+ghost use Rattle.osm_keys.specs.Grains.{grain_of};
 ghost use Rattle.osm_keys.specs.Publications.{IsPublication, Publication};
 ghost use Rattle.ql_syntax.specs.StatementViews.{filter_of, filters_of};
 ghost use Rattle.ref_sets.specs.Adding.{Adds, From};
 ghost use Rattle.ref_sets.specs.Sets.{IsSetOf};
 ghost use Rattle.ref_sets.specs.NamedSets.{lists_of};
 ghost use Rattle.ql_eval.specs.Asks.{AskedByRest, AskedFor, IsListedBy, IsOfKindIn};
-ghost use Rattle.ql_eval.specs.Questions.{NeededBy, object_ask};
+ghost use Rattle.ql_eval.specs.Questions.{NeededBy, line_ask};
 ghost use Rattle.ql_eval.specs.internal.Links.{AreAllThere, AreThere};
 ghost use Rattle.ql_eval.specs.internal.Narrowing.{AskedByPathDown, HasId, IsNamedBy, IsNamedByAll, IsNamedOnPath};
 ghost use Rattle.ql_eval.specs.internal.Giving.{AllGiven, AllSetsGiven};
@@ -43,7 +44,7 @@ pub(crate) fn filter_by_reference<W: Source>(
         → EndsTruly W.holds W.used W.under source.old source.new p
         (λ left. IsSetOf left
         (λ r. Contains refs r × IsNamedByAll p.objects env (filters_of filters.now) r))
-        (NeededBy p (From (filters_of filters.now) (AskedByRest env))) result }
+        (NeededBy p (From (filters_of filters.now) (AskedByRest p env))) result }
 {
     // For the proof alone: a set rises.
     let _ = refs.as_slice();
@@ -73,7 +74,7 @@ fn named<W: Source>(
         → EndsTruly W.holds W.used W.under source.old source.new p
         (λ left. IsSetOf left
         (λ r. Contains refs r × IsNamedBy p.objects env r (filter_of filter.now)))
-        (NeededBy p (AskedByRest env (filter_of filter.now))) result }
+        (NeededBy p (AskedByRest p env (filter_of filter.now))) result }
 {
     // For the proof alone: a set rises.
     let _ = refs.as_slice();
@@ -135,7 +136,7 @@ fn on_path<W: Source>(
         → AreThere p.objects from.now
         → EndsTruly W.holds W.used W.under source.old source.new p
         (λ left. IsSetOf left (λ r. Contains refs r × IsNamedOnPath p.objects from.now path r))
-        (NeededBy p (AskedByPathDown from.now path)) result }
+        (NeededBy p (AskedByPathDown p from.now path)) result }
 {
     // For the proof alone: a set rises.
     let _ = refs.as_slice();
@@ -167,7 +168,7 @@ fn listed_from<W: Source>(
         → EndsTruly W.holds W.used W.under source.old source.new p
         (λ left. IsSetOf left
         (λ r. Contains refs.now r × IsListedBy p.objects (IsOfKindIn from.now kind) r))
-        (NeededBy p (AskedFor (IsOfKindIn from.now kind) object_ask)) result }
+        (NeededBy p (AskedFor (IsOfKindIn from.now kind) (line_ask (grain_of p.edition)))) result }
 {
     let listed = members_of(alloc, source, from.of_kinds(kind, kind))?;
     Ok(refs.intersection(alloc, &listed)?)

@@ -39,7 +39,7 @@ pub(crate) fn members_of<W: Source>(
         → AreThere p.objects names.now
         → EndsTruly W.holds W.used W.under source.old source.new p
         (λ refs. IsSetOf refs (From names.now (IsListedOf p.objects)))
-        (NeededBy p (From names.now IsParentAsk)) result }
+        (NeededBy p (From names.now (IsParentAsk p))) result }
 {
     let mut listed = Vec::new(alloc);
     for name in names {
@@ -61,7 +61,7 @@ fn add_listed<W: Source>(source: &mut W, name: Ref, listed: &mut Vec<Ref>) -> Re
         → IsThere p.objects name
         → EndsTruly W.holds W.used W.under source.old source.new p
         (λ _. Adds listed.old.items listed.new.items (IsListedOf p.objects name))
-        (NeededBy p (IsParentAsk name)) result }
+        (NeededBy p (IsParentAsk p name)) result }
 {
     if name.kind == Kind::Node {
         return Ok(());
@@ -183,7 +183,7 @@ pub(crate) fn members_there<W: Source>(
         → EndsTruly W.holds W.used W.under source.old source.new p
         (λ refs. IsSetOf refs
         (λ r. IsListedIn p.objects names.now first last r × IsThere p.objects r))
-        (NeededBy p (IsBelowAsk p.objects names.now first last)) result }
+        (NeededBy p (IsBelowAsk p names.now first last)) result }
 {
     let listed = members_of(alloc, source, names)?;
     those_there(alloc, source, listed.of_kinds(first, last))

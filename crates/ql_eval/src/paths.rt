@@ -38,7 +38,7 @@ pub(crate) fn on_path<W: Source>(
         → AreThere p.objects set.now
         → EndsTruly W.holds W.used W.under source.old source.new p
         (λ refs. IsSetOf refs (IsAt p.objects set.now kind path))
-        (NeededBy p (AskedByPath p.objects set.now kind path)) result }
+        (NeededBy p (AskedByPath p set.now kind path)) result }
 {
     match path {
         Path::W => below_of(alloc, source, set, Kind::Way, kind),
@@ -66,7 +66,7 @@ fn below_of<W: Source>(
         → AreThere p.objects set.now → from ≢ kinds.Node
         → EndsTruly W.holds W.used W.under source.old source.new p
         (λ refs. IsSetOf refs (IsBelowOf p.objects set.now from kind))
-        (NeededBy p (AskedBelow p.objects set.now from kind)) result }
+        (NeededBy p (AskedBelow p set.now from kind)) result }
 {
     let names = set.of_kinds(from, from);
     members_there(alloc, source, names, first_kind(kind), last_kind(kind))

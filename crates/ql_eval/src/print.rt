@@ -11,7 +11,7 @@ ghost use Rattle.ql_eval.specs.Questions.{NeededBy};
 ghost use Rattle.ql_eval.specs.Work.{HasNoClash, WorkOfOut};
 ghost use Rattle.ql_eval.specs.Written.{HasWritten};
 ghost use Rattle.ql_eval.specs.internal.Entries.{IsThere};
-ghost use Rattle.ql_eval.specs.internal.Links.{AreThere, IsObjectAsk};
+ghost use Rattle.ql_eval.specs.internal.Links.{AreThere, IsLineAsk};
 ghost use Rattle.ql_eval.specs.internal.Objects.{AreKnownThere, IsKnownThere};
 ghost use Rattle.ql_eval.specs.internal.Printing.{line_at, lines_at, name_lines};
 ghost use Rattle.ql_eval.specs.internal.Giving.{AllGiven};
@@ -56,7 +56,7 @@ pub(crate) fn print<W: Source, T: Sink>(
         → EndsTruly W.holds W.used W.under source.old source.new p
         (λ _. HasWritten (T.stands sink.old) (T.stands sink.new)
         (printed_of_by (form_text form) p.objects refs.now mode limit))
-        (NeededBy p (AskedByOut refs.now mode limit)) result }
+        (NeededBy p (AskedByOut p refs.now mode limit)) result }
     ensures bounded { (p : Publication) → IsPublication p → W.under source.old p
         → AreThere p.objects refs.now → HasNoClash p (W.used source.new)
         → IsBounded (WorkOfOut (form_text form) p refs.now mode limit)
@@ -152,7 +152,7 @@ fn print_objects<W: Source, T: Sink>(
         → EndsTruly W.holds W.used W.under source.old source.new p
         (λ _. HasWritten (T.stands sink.old) (T.stands sink.new)
         (lines_at form p.objects mode names.now))
-        (NeededBy p (From names.now IsObjectAsk)) result }
+        (NeededBy p (From names.now (IsLineAsk p))) result }
     ensures bounded { (p : Publication) → IsPublication p → W.under source.old p
         → AreThere p.objects names.now → HasNoClash p (W.used source.new)
         → meter.new.spent ≤ meter.old.spent + length (lines_at form p.objects mode names.now) }
@@ -190,7 +190,7 @@ fn print_object<W: Source, T: Sink>(
         → IsThere p.objects name
         → EndsTruly W.holds W.used W.under source.old source.new p
         (λ _. HasWritten (T.stands sink.old) (T.stands sink.new) (line_at form p.objects mode name))
-        (NeededBy p (IsObjectAsk name)) result }
+        (NeededBy p (IsLineAsk p name)) result }
     ensures bounded { (p : Publication) → IsPublication p → W.under source.old p
         → IsThere p.objects name → HasNoClash p (W.used source.new)
         → meter.new.spent ≤ meter.old.spent + length (line_at form p.objects mode name) }

@@ -43,7 +43,7 @@ pub(crate) fn recurse_once<W: Source>(
         → AreThere p.objects set.value
         → EndsTruly W.holds W.used W.under source.old source.new p
         (λ refs. IsSetOf refs.value (IsRefOf p.objects (IsReached p.objects how set.value)))
-        (NeededBy p (AskedByRecursion p.objects how set.value)) result }
+        (NeededBy p (AskedByRecursion p how set.value)) result }
     ensures bounded { (p : Publication) → IsPublication p → W.under source.old p
         → AreThere p.objects set.value → HasNoClash p (W.used source.new)
         → IsBounded (OfSet (IsRefOf p.objects (IsReached p.objects how set.value))
@@ -75,7 +75,7 @@ fn recurse<W: Source>(
         → AreThere p.objects set.now
         → EndsTruly W.holds W.used W.under source.old source.new p
         (λ refs. IsSetOf refs (IsRefOf p.objects (IsReached p.objects how set.now)))
-        (NeededBy p (AskedByRecursion p.objects how set.now)) result }
+        (NeededBy p (AskedByRecursion p how set.now)) result }
     ensures bounded { (p : Publication) → IsPublication p → W.under source.old p
         → AreThere p.objects set.now → HasNoClash p (W.used source.new)
         → IsBounded (OfSet (IsRefOf p.objects (IsReached p.objects how set.now))
@@ -101,7 +101,7 @@ fn down<W: Source>(alloc: Global, source: &mut W, set: &RefSet) -> Result<RefSet
         → AreThere p.objects set.now
         → EndsTruly W.holds W.used W.under source.old source.new p
         (λ refs. IsSetOf refs (IsRefOf p.objects (IsReached p.objects recursions.Down set.now)))
-        (NeededBy p (AskedByRecursion p.objects recursions.Down set.now)) result }
+        (NeededBy p (AskedByRecursion p recursions.Down set.now)) result }
 {
     let ways = set.of_kinds(Kind::Way, Kind::Way);
     let relations = set.of_kinds(Kind::Rel, Kind::Rel);
@@ -128,7 +128,7 @@ fn add_members<W: Source>(
         → AreThere p.objects relations.now
         → EndsTruly W.holds W.used W.under source.old source.new p
         (λ _. Adds refs.old.items refs.new.items (IsMemberBelow p.objects relations.now))
-        (NeededBy p (IsMemberAsk p.objects relations.now)) result }
+        (NeededBy p (IsMemberAsk p relations.now)) result }
 {
     let members = members_there(alloc, source, relations, Kind::Node, Kind::Way)?;
     let ways = members.of_kinds(Kind::Way, Kind::Way);
@@ -149,7 +149,7 @@ fn up<W: Source>(alloc: Global, source: &mut W, set: &RefSet) -> Result<RefSet, 
         → AreThere p.objects set.now
         → EndsTruly W.holds W.used W.under source.old source.new p
         (λ refs. IsSetOf refs (IsRefOf p.objects (IsReached p.objects recursions.Up set.now)))
-        (NeededBy p (AskedByRecursion p.objects recursions.Up set.now)) result }
+        (NeededBy p (AskedByRecursion p recursions.Up set.now)) result }
 {
     let children = set.of_kinds(Kind::Node, Kind::Way);
     let first = referrers_of(alloc, source, children, None)?;

@@ -96,7 +96,7 @@ fn answered<W: Source>(
         → EndsTruly W.holds W.used W.under source.old source.new p
         (λ refs. IsSetOf refs
         (IsRefOf p.objects (IsSelected p.objects env pick (filters_in plan.now))))
-        (NeededBy p (AskedByPlan p.objects env pick plan.now)) result }
+        (NeededBy p (AskedByPlan p env pick plan.now)) result }
     ensures bounded { let env = lists_of sets.now.named.items in
         (p : Publication) → IsPublication p → W.under source.old p → AreAllThere p.objects env
         → AllByRecursion (Allows pick) (filters_in plan.now) → HasNoClash p (W.used source.new)

@@ -174,7 +174,14 @@ impl<'s, 'q, 'a, S: Shelf<'a>> Source for ShelfSource<'s, 'q, 'a, S> {
     }
 
     fn has(&mut self, name: Ref) -> Result<bool, EvalFault> {
-        self.look_up(name)?;
+        look_up(
+            self.alloc,
+            &mut *self.shelf,
+            &self.manifest,
+            name,
+            &mut self.tally,
+            &mut *self.objects,
+        )?;
         Ok(self.known(name).is_some())
     }
 

@@ -8,6 +8,7 @@ ghost use Rattle.osm_model.specs.Sets.{object_at};
 ghost use Rattle.osm_model.specs.declared.reference.Ref.{Ref};
 ghost use Rattle.tree_node.specs.Outcomes.{Outcome};
 ghost use Rattle.tree_node.specs.Shelves.{SameNodes, Stays};
+ghost use Rattle.osm_keys.specs.Grains.{grain_of};
 ghost use Rattle.osm_keys.specs.Publications.{IsPublication, Publication};
 ghost use Rattle.ref_sets.specs.Sets.{IsSetOf};
 ghost use Rattle.ql_meaning.specs.Values.{IsRefOf};
@@ -16,7 +17,7 @@ ghost use Rattle.ql_eval.specs.internal.Affording.{IsSizeOf, IsWithinSet, Within
 ghost use Rattle.ql_eval.specs.internal.Boxes.{IsInBox};
 ghost use Rattle.ql_eval.specs.Work.{IsInCellsOf};
 ghost use Rattle.ql_eval.specs.Faults.{cause_of_evaluation};
-ghost use Rattle.ql_eval.specs.Questions.{Answers, IsCountOf, NeededBy, NeedsAsk, count_ask, names_ask, object_ask};
+ghost use Rattle.ql_eval.specs.Questions.{Answers, IsCountOf, NeededBy, NeedsAsk, count_ask, line_ask, names_ask, object_ask};
 ghost use Rattle.ql_eval.specs.internal.Entries.{HasNoNulIn, IsThere};
 ghost use Rattle.ql_eval.specs.declared.fault.EvalFault.{EvalFault};
 ghost use Rattle.ql_eval.specs.declared.fault.EvalFault.TheVariants.{Absent, Memory};
@@ -97,9 +98,10 @@ pub(crate) trait Source {
             (λ is. IsTrue is ↔ IsThere p.objects name)
             (NeedsAsk p (object_ask name)) result };
 
-    /// Looks up the object with this reference, which is there, unless that was done before. Afterwards it is known. A walk
-    /// counts as one of a sound evaluation only if it found the object, or the object may be absent.
+    /// Looks up the object with this reference, which an entry has named, unless that was done before. Afterwards it is known.
+    /// A walk counts as one of a sound evaluation only if it found the object, or the object may be absent.
     fn look_up(&mut self, name: Ref) -> Result<(), EvalFault>
+        requires { gave self.old name }
         ensures later { later self.old self.new }
         ensures walked { OnOk result
             ((knows self.new name None → may_be_absent self.new name) → walked self.old self.new) }
@@ -108,7 +110,7 @@ pub(crate) trait Source {
         ensures answer { (p : Publication) → IsPublication p → under self.old p
             → EndsTruly holds used under self.old self.new p
             (λ _. knows self.new name (object_at p.objects name))
-            (NeedsAsk p (object_ask name)) result };
+            (NeedsAsk p (line_ask (grain_of p.edition) name)) result };
 
     /// The object with a reference that was looked up, if it is there.
     fn known(&self, name: Ref) -> Option<&Object>
@@ -148,11 +150,12 @@ pub(crate) trait Source {
         ensures answer { (p : Publication) → IsPublication p → under self.old p
             → EndsTruly holds used under self.old self.new p
             (λ found. IsSetOf found.nodes (IsRefOf p.objects (IsInBox area.now)))
-            (NeededBy p (IsAskedInBox area.now)) result }
+            (NeededBy p (IsAskedInBox p area.now)) result }
         ensures read { (p : Publication) → IsPublication p → reads self.old p
             → Outcome cause_of_evaluation
-            (λ found. IsSizeOf (IsRefOf p.objects (IsInCellsOf area.now)) found.read)
-            (NeededBy p (IsAskedInBox area.now))
+            (λ found. IsSizeOf
+            (IsRefOf p.objects (IsInCellsOf (grain_of p.edition) area.now)) found.read)
+            (NeededBy p (IsAskedInBox p area.now))
             (nodes_around holds used self.old self.new) result };
 
     /// How many nodes the cells have at least that a box meets. It uses only nodes that reading them uses too.
@@ -163,8 +166,8 @@ pub(crate) trait Source {
         ensures truly { StaysTrue under self.old self.new }
         ensures answer { (p : Publication) → IsPublication p → reads self.old p
             → Within cause_of_evaluation
-            (IsWithinSet (IsRefOf p.objects (IsInCellsOf area.now)))
-            (NeededBy p (IsAskedInBox area.now))
+            (IsWithinSet (IsRefOf p.objects (IsInCellsOf (grain_of p.edition) area.now)))
+            (NeededBy p (IsAskedInBox p area.now))
             (nodes_around holds used self.old self.new) result };
 
     /// What a recursion gave from a set, if that is remembered.

@@ -1,4 +1,5 @@
 -- Lemmas for the crates above.
+pub mod ByteLaws
 pub mod FieldLemmas
 pub mod MapLemmas
 pub mod NodeLaws

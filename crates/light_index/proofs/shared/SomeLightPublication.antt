@@ -5,11 +5,12 @@ use Rattle.std.specs.declared.cmp.Ordering.{Ordering}
 use Rattle.std.specs.declared.cmp.Ordering.TheVariants.{Less, Equal, Greater}
 use Rattle.std.proofs.lemmas.Bool.{ltb-false, ltb-true}
 use Rattle.light_index.proofs.LightListingLemmas.{keyed, members_are}
-use Rattle.light_index.specs.LightEntries.{AreLightEntriesOf}
 use Rattle.light_index.specs.LightPublications.{HasTooManyLight, IsLightPublicationOf, LightPublication}
 use Rattle.light_index.specs.internal.LightListing.{light_entries_from}
 use Rattle.osm_index.specs.EntryLists.{IsKeyed}
 use Rattle.osm_keys.proofs.shared.Members.{first_or_in_rest, here, in_rest}
+use Rattle.osm_keys.specs.Entries.{AreEntriesOf}
+use Rattle.osm_keys.specs.Grains.{Lines}
 use Rattle.osm_model.specs.Elements.{Element}
 use Rattle.osm_model.specs.Sets.{IsObjectSet}
 use Rattle.tree_node.specs.Nodes.{AreRisingFrom, Binding, keys_of}
@@ -91,16 +92,16 @@ in_order (b ∷ list) one =
 module _ (objects : List Element) (set : IsObjectSet objects) where
   -- the entries of a tree, few enough
   abbrev HasFew : Tree → Type 0
-  HasFew tree = (entries : List Binding) × AreLightEntriesOf objects tree entries × (length entries ≤ ENTRY_LIMIT)
+  HasFew tree = (entries : List Binding) × AreEntriesOf Lines objects tree entries × (length entries ≤ ENTRY_LIMIT)
 
-  decide : (tree : Tree) (entries : List Binding) → AreLightEntriesOf objects tree entries → (many : Bool) → ltb ENTRY_LIMIT (length entries) ≡ many → HasTooManyLight objects ⊎ HasFew tree
+  decide : (tree : Tree) (entries : List Binding) → AreEntriesOf Lines objects tree entries → (many : Bool) → ltb ENTRY_LIMIT (length entries) ≡ many → HasTooManyLight objects ⊎ HasFew tree
   decide tree entries are true is = inl (tree, entries, are, ltb-true ENTRY_LIMIT (length entries) is)
   decide tree entries are false is = inr (entries, are, ltb-false ENTRY_LIMIT (length entries) is)
 
   few_or_many : (tree : Tree) → HasTooManyLight objects ⊎ HasFew tree
   few_or_many tree =
       let sorted = in_order (flat_map (light_entries_from tree) objects) (keyed objects set tree) in
-      let are : AreLightEntriesOf objects tree sorted.0 = record {
+      let are : AreEntriesOf Lines objects tree sorted.0 = record {
         rising = sorted.1;
         members = λ b. let given = sorted.2 b in let meant = members_are objects tree b in ((λ h. meant.0 (given.0 h)), (λ h. given.1 (meant.1 h)));
       } in

@@ -2,10 +2,11 @@
 -- Source: this project.
 use Rattle.std.specs.List.{flat_map}
 use Rattle.std.specs.Prelude.{◌≡◌, ℕ, ℤ, List, [], ◌∷◌, ◌++◌, length, map}
-use Rattle.light_index.specs.LightEntries.{light_object_entry}
 use Rattle.light_index.specs.declared.light_entry_list.LightSpan.{LightSpan}
-use Rattle.light_keys.specs.FineKeys.{fine_cell_key, fine_cell_value}
-use Rattle.light_keys.specs.Lines.{digest_of_line}
+use Rattle.osm_keys.specs.Entries.{object_entry}
+use Rattle.osm_keys.specs.FineKeys.{fine_cell_key, fine_cell_value}
+use Rattle.osm_keys.specs.Grains.{Lines}
+use Rattle.osm_keys.specs.Lines.{digest_of_line}
 use Rattle.osm_keys.specs.Keys.{back_key, tag_key}
 use Rattle.osm_model.specs.Elements.{Element, reference}
 use Rattle.osm_model.specs.declared.body.Body.{Body}
@@ -50,7 +51,7 @@ backs_of (bodies.Rel members) referrer line = map (member_back referrer line) me
 
 -- the entries of a tree for one object, as they are met
 abbrev pub light_entries_from : Tree → Element → List Binding
-light_entries_from Objects o = light_object_entry o ∷ []
+light_entries_from Objects o = object_entry Lines o ∷ []
 light_entries_from Tags o = map (tag_of (reference o) (digest_of_line o)) o.tags
 light_entries_from Cells o = cells_of o.body o.id (digest_of_line o)
 light_entries_from Backs o = backs_of o.body (reference o) (digest_of_line o)

@@ -1,11 +1,12 @@
 -- How trees are put into a stock.
 -- Source: this project.
 use Rattle.std.specs.Prelude.{◌≡◌, ℕ, ◌<◌, ◌≤◌, ◌^◌, List, length, ◌⊎◌, Option, Some, None, Result, Ok, Err, ⊤}
-use Rattle.light_index.specs.LightEntries.{AreLightEntriesOf}
 use Rattle.light_index.specs.LightPublications.{HasTooManyLight, IsLightPublicationOf, IsLightTreeNode, LightPublication, light_top_in}
 use Rattle.osm_index.specs.declared.fault.IndexFault.{IndexFault}
 use Rattle.osm_index.specs.declared.fault.IndexFault.TheVariants as faults
 use Rattle.osm_index.specs.internal.Putting.{Ended}
+use Rattle.osm_keys.specs.Entries.{AreEntriesOf}
+use Rattle.osm_keys.specs.Grains.{Lines}
 use Rattle.osm_keys.specs.Manifests.{top_among}
 use Rattle.osm_model.specs.Elements.{Element}
 use Rattle.tree_node.specs.NodeRefs.{number_of}
@@ -27,7 +28,7 @@ fault_of_put puts.Memory = faults.Memory
 -- a tree of the objects was put into a stock, or two nodes clash
 pub record HasPut (objects : List Element) (tree : Tree) (old new : List ℕ → Type 0) (top : Option Digest) : Type 0 where
   pub entries : List Binding
-  pub are : AreLightEntriesOf objects tree entries
+  pub are : AreEntriesOf Lines objects tree entries
   pub few : length entries ≤ ENTRY_LIMIT
   pub only : (bytes : List ℕ) → new bytes → old bytes ⊎ IsNodeOf (levels Two (number_of tree) entries) bytes
   pub ended : Ended old new (levels Two (number_of tree) entries) top

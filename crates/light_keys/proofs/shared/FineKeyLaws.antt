@@ -12,7 +12,7 @@ use Rattle.tree_node.specs.Order.{IsBelow}
 use Rattle.tree_node.specs.internal.OrderLemmas.{not_itself, order_trans}
 use Rattle.osm_keys.specs.Keys.{above, id_bytes}
 use Rattle.osm_keys.proofs.shared.OneObject.{same_id}
-use Rattle.light_keys.specs.FineKeys.{IsBefore, IsFineCell, SaysFineCell, fine_cell_key, fine_cell_value, fine_column, fine_corner, fine_row}
+use Rattle.osm_keys.specs.FineKeys.{IsBefore, IsFineCell, SaysFineCell, fine_cell_key, fine_cell_value, fine_column, fine_corner, fine_row}
 use Rattle.light_keys.proofs.FineLemmas.{column_is, latitude_is, line_is, row_is}
 use Rattle.light_keys.proofs.shared.FineOrder.{bytes_below, column_few, column_less, corner_below, rest_below, row_few}
 

@@ -16,8 +16,8 @@ use Rattle.tree_walk.specs.Ranges.{IsIn, Range}
 use Rattle.osm_keys.specs.Keys.{id_bytes}
 use Rattle.osm_keys.proofs.shared.CellLaws.{AtMostOne, one_place}
 use Rattle.osm_keys.proofs.shared.Members.{first_or_in_rest, from_all, from_map, here, in_all, in_map, in_rest, none}
-use Rattle.light_keys.specs.FineKeys.{fine_cell_key, fine_column, fine_row, last_fine_column}
-use Rattle.light_keys.specs.FineRanges.{AreFineColumns, AreFineRanges, AreFineRows, fine_range}
+use Rattle.osm_keys.specs.FineKeys.{fine_cell_key, fine_column, fine_row, last_fine_column}
+use Rattle.osm_keys.specs.FineRanges.{AreFineColumns, AreFineRanges, AreFineRows, fine_range}
 use Rattle.light_keys.proofs.shared.FineOrder.{apart, column_back, column_few, column_rises, fine_in, in_fine, row_back, row_few, row_rises}
 
 -- ---- rows of a list

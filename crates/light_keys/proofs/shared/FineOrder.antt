@@ -12,8 +12,8 @@ use Rattle.tree_walk.specs.Ranges.{Begins, IsAtMost, IsIn}
 use Rattle.tree_walk.proofs.shared.KeyLemmas.{below_cons, cons_below}
 use Rattle.osm_keys.specs.Keys.{above}
 use Rattle.osm_keys.proofs.shared.RangeLaws.{front_at_most}
-use Rattle.light_keys.specs.FineKeys.{fine_column, fine_corner, fine_row}
-use Rattle.light_keys.specs.FineRanges.{fine_range}
+use Rattle.osm_keys.specs.FineKeys.{fine_column, fine_corner, fine_row}
+use Rattle.osm_keys.specs.FineRanges.{fine_range}
 
 -- ---- rows and columns
 

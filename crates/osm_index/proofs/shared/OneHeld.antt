@@ -13,6 +13,7 @@ use Rattle.tree_node.specs.Trees.{HasTree, IsNodeOf, Shape, levels, top_of}
 use Rattle.tree_node.specs.declared.tree.Tree.TheVariants.{Objects}
 use Rattle.tree_node.proofs.shared.TreeSame.{one_list}
 use Rattle.osm_keys.specs.Entries.{object_entry}
+use Rattle.osm_keys.specs.Grains.{Whole}
 use Rattle.osm_keys.specs.Publications.{Publication, shape_in, shape_of, top_in, tree_in}
 use Rattle.osm_index.specs.Snapshots.{HoldsPublication}
 use Rattle.osm_keys.specs.declared.edition.Edition.{Edition}
@@ -22,13 +23,13 @@ use Rattle.osm_index.proofs.TreeNodes.{is_tree}
 use Rattle.osm_keys.proofs.shared.OnePublication.{lists_have_trees}
 
 -- the entries of objects stand for them
-same_objects : (xs ys : List Element) → AllByRecursion IsElement xs → AllByRecursion IsElement ys → map object_entry xs ≡ map object_entry ys → xs ≡ ys
+same_objects : (xs ys : List Element) → AllByRecursion IsElement xs → AllByRecursion IsElement ys → map (object_entry Whole) xs ≡ map (object_entry Whole) ys → xs ≡ ys
 same_objects [] [] are_x are_y e = refl
 same_objects [] (y ∷ ys) are_x are_y e = absurd Prim.cc
 same_objects (x ∷ xs) [] are_x are_y e = absurd Prim.cc
 same_objects (x ∷ xs) (y ∷ ys) are_x are_y e =
-    let head : object_entry x ≡ object_entry y = Prim.cc in
-    let tail : map object_entry xs ≡ map object_entry ys = Prim.cc in
+    let head : object_entry Whole x ≡ object_entry Whole y = Prim.cc in
+    let tail : map (object_entry Whole) xs ≡ map (object_entry Whole) ys = Prim.cc in
     let one = one_line x y are_x.0 are_y.0 (ap (λ (b : Binding). b.value) head) in
     rw (one, same_objects xs ys are_x.1 are_y.1 tail) refl
 

@@ -17,6 +17,7 @@ use Rattle.tree_node.specs.declared.tree.Tree.{Tree}
 use Rattle.tree_node.specs.declared.tree.Tree.TheVariants.{Objects, Tags, Cells, Backs}
 use Rattle.osm_index.specs.Applying.{IsSecond}
 use Rattle.osm_keys.specs.Entries.{AreEntriesOf}
+use Rattle.osm_keys.specs.Grains.{Whole}
 use Rattle.osm_keys.specs.Manifests.{top_among}
 use Rattle.osm_keys.specs.Publications.{IsPublication, Publication, top_in}
 use Rattle.osm_index.specs.declared.changed_trees.ChangedTrees.{ChangedTrees}
@@ -44,7 +45,7 @@ pub record HoldsChanging (p : Publication) (removed puts set : List Element) (tr
 
 -- what became of one tree: the tree of the new set, whose entries are few enough
 pub record IsChangedTree (set : List Element) (tree : Tree) (old new : List Binding) (rebuilt : Rebuilt) : Type 0 where
-  pub are : AreEntriesOf set tree new
+  pub are : AreEntriesOf Whole set tree new
   pub few : length new ≤ ENTRY_LIMIT
   pub is : IsRebuilt (levels Two (number_of tree) old) (levels Two (number_of tree) new) rebuilt
 
@@ -52,7 +53,7 @@ pub record IsChangedTree (set : List Element) (tree : Tree) (old new : List Bind
 pub record IsChangeOf (p : Publication) (set : List Element) (tree : Tree) (changes : List (Change Binding)) : Type 0 where
   pub rising : AreRisingFrom None (keys_of_changes changes)
   pub few : length (changed_entries (p.entries tree) changes) ≤ ENTRY_LIMIT
-  pub are : AreEntriesOf set tree (changed_entries (p.entries tree) changes)
+  pub are : AreEntriesOf Whole set tree (changed_entries (p.entries tree) changes)
 
 -- ---- all four
 

@@ -10,6 +10,7 @@ use Rattle.tree_node.specs.Nodes.{Binding}
 use Rattle.tree_node.specs.Trees.{IsNodeOf}
 use Rattle.tree_node.specs.declared.tree.Tree.{Tree}
 use Rattle.osm_keys.specs.Entries.{object_entry}
+use Rattle.osm_keys.specs.Grains.{Whole}
 use Rattle.osm_keys.specs.Publications.{IsPublication, Publication, top_in, tree_in}
 
 -- this is a publication, the top of its tree has this digest, and the set holds the tree's nodes
@@ -26,4 +27,4 @@ pub record AreNamed (objects : List Element) (names : List Ref) (found : List El
 -- these are the entries of these objects in the object tree, in their order
 pub record AreObjectEntries (objects : List Element) (entries : List Binding) : Type 0 where
   pub elements : All IsElement objects
-  pub entries_are : entries ≡ map object_entry objects
+  pub entries_are : entries ≡ map (object_entry Whole) objects

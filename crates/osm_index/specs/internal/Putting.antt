@@ -12,6 +12,7 @@ use Rattle.tree_node.specs.declared.digest.Digest.{Digest}
 use Rattle.tree_node.specs.declared.limits.TheConstants.{ENTRY_LIMIT}
 use Rattle.tree_node.specs.declared.tree.Tree.{Tree}
 use Rattle.osm_keys.specs.Entries.{AreEntriesOf}
+use Rattle.osm_keys.specs.Grains.{Whole}
 use Rattle.osm_keys.specs.Manifests.{top_among}
 use Rattle.osm_keys.specs.Publications.{HasTooMany, IsPublicationOf, Publication, top_in, tree_in}
 use Rattle.osm_keys.specs.declared.edition.Edition.{Edition}
@@ -26,7 +27,7 @@ Ended old new built (Some top) = (top.0 ≡ digest (top_of built)) × GrownByAll
 -- a tree of the objects was put into a stock, or two nodes clash
 pub record HasPut (objects : List Element) (tree : Tree) (shape : Shape) (old new : List ℕ → Type 0) (top : Option Digest) : Type 0 where
   pub entries : List Binding
-  pub are : AreEntriesOf objects tree entries
+  pub are : AreEntriesOf Whole objects tree entries
   pub few : length entries ≤ ENTRY_LIMIT
   pub only : (bytes : List ℕ) → new bytes → old bytes ⊎ IsNodeOf (levels shape (number_of tree) entries) bytes
   pub ended : Ended old new (levels shape (number_of tree) entries) top

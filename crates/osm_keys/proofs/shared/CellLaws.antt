@@ -22,7 +22,8 @@ use Rattle.tree_walk.specs.Choices.{AreThose}
 use Rattle.tree_walk.specs.Ranges.{Begins, IsAtMost, IsIn, Range}
 use Rattle.tree_walk.specs.Walks.{IsEntryIn}
 use Rattle.tree_walk.proofs.shared.KeyLemmas.{below_cons, cons_below}
-use Rattle.osm_keys.specs.Entries.{cell_entry}
+use Rattle.osm_keys.specs.Entries.{cell_entry, placed_key}
+use Rattle.osm_keys.specs.Grains.{grain_of}
 use Rattle.osm_keys.specs.Keys.{above, cell_bytes, cell_key, column, id_bytes, last_column, row}
 use Rattle.osm_keys.specs.Publications.{IsPublication, Publication}
 use Rattle.osm_keys.specs.Ranges.{AreCellRanges, AreColumns, AreRows, cell_range}
@@ -418,7 +419,7 @@ place_of body place fits e = subst BodyInRange e fits
 
 -- a range finds nodes of the map, just those whose key is in it
 pub cell_found : (p : Publication) → IsPublication p → (range : Range) (found : List Binding) → AreThose (IsEntryIn range) (p.entries Cells) found
-    → (entry : Binding) → Contains found entry ↔ ((o : Element) × (place : Place) × Contains p.objects o × (o.body ≡ bodies.Node place) × IsIn range (cell_key place o.id) × (entry ≡ cell_entry place o.id))
+    → (entry : Binding) → Contains found entry ↔ ((o : Element) × (place : Place) × Contains p.objects o × (o.body ≡ bodies.Node place) × IsIn range (placed_key (grain_of p.edition) place o.id) × (entry ≡ cell_entry (grain_of p.edition) place o))
 cell_found p is range found those entry =
     let f = found_is p is Cells found range those entry in (
       (λ h.

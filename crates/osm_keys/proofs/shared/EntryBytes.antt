@@ -1,10 +1,9 @@
 -- The keys and values of entries are bytes.
-use Rattle.std.proofs.Common.{◌≡◌, ℕ, zero, suc, ◌+◌, ◌/◌, ◌%◌, ◌<◌, inl, inr, ℤ, Bool, true, false, ◌&&◌, cond, ltb, List, [], ◌∷◌, ◌++◌, refl, sym, subst, arith, w16, w32}
-use Rattle.std.specs.Int.{bytes_high_first, cast_unsigned, to_be_bytes}
+use Rattle.std.proofs.Common.{◌≡◌, ℕ, ◌+◌, ◌/◌, ◌<◌, inl, inr, ℤ, Bool, true, false, ◌&&◌, cond, ltb, List, [], ◌∷◌, ◌++◌, refl, sym, subst, arith, w16, w32}
+use Rattle.std.specs.Int.{cast_unsigned, to_be_bytes}
 use Rattle.std.specs.List.{AllByRecursion, Contains}
 use Rattle.std.specs.Str.{IsUtf8}
 use Rattle.std.proofs.lemmas.Bool.{ltb-true}
-use Rattle.std.proofs.lemmas.Nat.{mod_below}
 use lib.Utf8.{encode, encodes, next, scalar, scalars, scalar_cases}
 use Rattle.opl_codec.proofs.shared.CanonicalFields.{line_utf8}
 use Rattle.osm_model.specs.CanonicalLine.{canonical_line}
@@ -15,40 +14,21 @@ use Rattle.osm_model.specs.declared.kind.Kind.{Kind}
 use Rattle.osm_model.specs.declared.kind.Kind.TheVariants as kinds
 use Rattle.osm_model.specs.declared.reference.Ref.{Ref}
 use Rattle.osm_model.specs.declared.tag.Tag.{Tag}
+use Rattle.tree_node.proofs.shared.ByteLaws.{append_bytes, cons_bytes, digest_is_bytes, no_bytes, number_bytes}
 use Rattle.tree_node.specs.NodeRefs.{number_of}
 use Rattle.tree_node.specs.Nodes.{AreBytes, Binding}
 use Rattle.tree_node.specs.declared.tree.Tree.{Tree}
 use Rattle.tree_node.specs.declared.tree.Tree.TheVariants.{Objects, Tags, Cells, Backs}
 use Rattle.tree_walk.specs.Walks.{IsTopOf}
-use Rattle.osm_keys.specs.Entries.{IsEntryOf}
+use Rattle.osm_keys.specs.Entries.{IsEntryOf, named_value, object_value, placed_key, placed_value}
+use Rattle.osm_keys.specs.FineKeys.{fine_column, fine_corner, fine_row, latitude_bytes}
+use Rattle.osm_keys.specs.Grains.{Grain, Lines, Whole, grain_of}
 use Rattle.osm_keys.specs.Keys.{cell_bytes, cell_value, column, id_bytes, ref_key, row, tag_key}
+use Rattle.osm_keys.specs.Lines.{digest_of_line}
 use Rattle.osm_keys.specs.Publications.{IsPublication, Publication, shape_in, top_in}
 use Rattle.osm_keys.proofs.shared.EntriesFit.{all_from}
 use Rattle.osm_keys.proofs.shared.OneObject.{is_element}
 use Rattle.osm_keys.proofs.shared.OnePublication.{lists_have_trees}
-
--- ---- bytes one after the other
-
-no_bytes : AreBytes []
-no_bytes i = omega arith
-
-cons_bytes : (x : ℕ) (xs : List ℕ) → x < 256 → AreBytes xs → AreBytes (x ∷ xs)
-cons_bytes x xs lt h zero = lt
-cons_bytes x xs lt h (suc i) = h i
-
-tail_bytes : (x : ℕ) (xs : List ℕ) → AreBytes (x ∷ xs) → AreBytes xs
-tail_bytes x xs h i = h (suc i)
-
-append_bytes : (xs ys : List ℕ) → AreBytes xs → AreBytes ys → AreBytes (xs ++ ys)
-append_bytes [] ys h k = k
-append_bytes (x ∷ xs) ys h k = cons_bytes x (xs ++ ys) (h 0) (append_bytes xs ys (tail_bytes x xs h) k)
-
--- ---- numbers
-
-number_bytes : (k n : ℕ) → AreBytes (bytes_high_first k n)
-number_bytes zero n = no_bytes
-number_bytes (suc zero) n = cons_bytes (n % 256) [] (omega arith) no_bytes
-number_bytes (suc (suc k)) n = cons_bytes _ (bytes_high_first (suc k) n) (mod_below _ 256 (omega arith)) (number_bytes (suc k) n)
 
 -- ---- texts
 
@@ -115,26 +95,57 @@ location_fits place =
     let lat = cast_unsigned w32 place.lat in
     append_bytes (to_be_bytes w32 lon) (to_be_bytes w32 lat) (number_bytes 4 lon) (number_bytes 4 lat)
 
+corner_fits : (row column : ℕ) → AreBytes (fine_corner row column)
+unfolding fine_corner
+corner_fits row column = append_bytes (to_be_bytes w16 row) (to_be_bytes w32 column) (number_bytes 2 row) (number_bytes 4 column)
+
+latitude_fits : (latitude : ℤ) → AreBytes (latitude_bytes latitude)
+unfolding latitude_bytes
+latitude_fits latitude = number_bytes 4 (cast_unsigned w32 latitude)
+
+line_fits : (o : Element) → AreBytes (digest_of_line o)
+line_fits o = digest_is_bytes (canonical_line o)
+
+-- ---- values and keys that depend on where the lines are
+
+object_value_fits : (grain : Grain) (o : Element) → IsElement o → AreBytes (object_value grain o)
+object_value_fits Whole o is = text_bytes (canonical_line o) (line_utf8 o is)
+object_value_fits Lines o is = line_fits o
+
+named_value_fits : (grain : Grain) (o : Element) → AreBytes (named_value grain o)
+named_value_fits Whole o = no_bytes
+named_value_fits Lines o = line_fits o
+
+placed_key_fits : (grain : Grain) (place : Place) (id : ℤ) → AreBytes (placed_key grain place id)
+placed_key_fits Whole place id = append_bytes (cell_bytes (row place.lat) (column place.lon)) (id_bytes id) (cell_fits (row place.lat) (column place.lon)) (id_fits id)
+placed_key_fits Lines place id =
+    append_bytes (fine_corner (fine_row place.lat) (fine_column place.lon)) (id_bytes id) (corner_fits (fine_row place.lat) (fine_column place.lon)) (id_fits id)
+
+placed_value_fits : (grain : Grain) (place : Place) (o : Element) → AreBytes (placed_value grain place o)
+placed_value_fits Whole place o = location_fits place
+placed_value_fits Lines place o = append_bytes (latitude_bytes place.lat) (digest_of_line o) (latitude_fits place.lat) (line_fits o)
+
+-- ---- entries
+
 -- key and value are bytes
 pub record AreOfBytes (b : Binding) : Type 0 where
   pub key : AreBytes b.key
   pub value : AreBytes b.value
 
-entry_fits : (o : Element) (tree : Tree) (b : Binding) → IsElement o → IsEntryOf o tree b → AreOfBytes b
-entry_fits o Objects b is e = subst AreOfBytes (sym e) (record { key = ref_fits (reference o); value = text_bytes (canonical_line o) (line_utf8 o is) })
-entry_fits o Tags b is (tag, has, e) =
+pub entry_fits : (grain : Grain) (o : Element) (tree : Tree) (b : Binding) → IsElement o → IsEntryOf grain o tree b → AreOfBytes b
+entry_fits grain o Objects b is e = subst AreOfBytes (sym e) (record { key = ref_fits (reference o); value = object_value_fits grain o is })
+entry_fits grain o Tags b is (tag, has, e) =
     let texts = subst (λ (t : Tag). IsUtf8 t.key × IsUtf8 t.value) has.2 (is.utf8.in_tags has.0 tag has.1) in
-    subst AreOfBytes (sym e) (record { key = tag_fits tag.key tag.value (reference o) (text_bytes tag.key texts.0) (text_bytes tag.value texts.1); value = no_bytes })
-entry_fits o Cells b is (place, at, e) =
-    subst AreOfBytes (sym e) (record { key = append_bytes (cell_bytes (row place.lat) (column place.lon)) (id_bytes o.id) (cell_fits (row place.lat) (column place.lon)) (id_fits o.id); value = location_fits place })
-entry_fits o Backs b is (target, lists, e) =
-    subst AreOfBytes (sym e) (record { key = append_bytes (ref_key target) (ref_key (reference o)) (ref_fits target) (ref_fits (reference o)); value = no_bytes })
+    subst AreOfBytes (sym e) (record { key = tag_fits tag.key tag.value (reference o) (text_bytes tag.key texts.0) (text_bytes tag.value texts.1); value = named_value_fits grain o })
+entry_fits grain o Cells b is (place, at, e) = subst AreOfBytes (sym e) (record { key = placed_key_fits grain place o.id; value = placed_value_fits grain place o })
+entry_fits grain o Backs b is (target, lists, e) =
+    subst AreOfBytes (sym e) (record { key = append_bytes (ref_key target) (ref_key (reference o)) (ref_fits target) (ref_fits (reference o)); value = named_value_fits grain o })
 
 -- ---- publications
 
 module _ (p : Publication) (is : IsPublication p) (tree : Tree) where
   pub of_bytes : (b : Binding) → Contains (p.entries tree) b → AreOfBytes b
-  of_bytes b h = let of = ((is.lists tree).members b).0 h in entry_fits of.0 tree b (is_element p.objects of.0 is.set of.1) of.2
+  of_bytes b h = let of = ((is.lists tree).members b).0 h in entry_fits (grain_of p.edition) of.0 tree b (is_element p.objects of.0 is.set of.1) of.2
 
   pub keys_are_bytes : AllByRecursion (λ (entry : Binding). AreBytes entry.key) (p.entries tree)
   keys_are_bytes = all_from (λ (entry : Binding). AreBytes entry.key) (p.entries tree) (λ b h. (of_bytes b h).key)

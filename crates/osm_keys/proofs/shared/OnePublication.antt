@@ -10,8 +10,10 @@ use Rattle.tree_node.specs.NodeRefs.{number_of}
 use Rattle.tree_node.specs.Trees.{HasTree, levels, top_of}
 use Rattle.tree_node.specs.declared.tree.Tree.{Tree}
 use Rattle.osm_keys.specs.Entries.{AreEntriesOf}
+use Rattle.osm_keys.specs.Grains.{Grain, Whole, grain_of}
 use Rattle.osm_keys.specs.Publications.{HasTooMany, IsPublication, IsPublicationOf, Publication, root_of, shape_of, top_in}
 use Rattle.osm_keys.specs.declared.edition.Edition.{Edition}
+use Rattle.osm_keys.specs.declared.edition.Edition.TheVariants as editions
 use Rattle.osm_keys.proofs.shared.EntriesFit.{has_tree}
 use Rattle.osm_keys.proofs.shared.OneManifest.{manifest_same}
 use Rattle.osm_keys.specs.Manifests.{manifest}
@@ -54,12 +56,24 @@ one_list low (x ∷ xs) (y ∷ ys) up more h =
     rw (same, rest) refl
 
 -- the entries of a tree are one list
-pub one_entry_list : (objects : List Element) (tree : Tree) (a b : List Binding) → AreEntriesOf objects tree a → AreEntriesOf objects tree b → a ≡ b
-one_entry_list objects tree a b is are =
+pub one_entry_list : (grain : Grain) (objects : List Element) (tree : Tree) (a b : List Binding) → AreEntriesOf grain objects tree a → AreEntriesOf grain objects tree b → a ≡ b
+one_entry_list grain objects tree a b is are =
     one_list None a b is.rising are.rising (λ x. ((λ h. (are.members x).1 ((is.members x).0 h)), (λ h. (is.members x).1 ((are.members x).0 h))))
 
+-- so far the lines are in the object tree of each edition
+pub whole_grain : (edition : Edition) → grain_of edition ≡ Whole
+whole_grain editions.One = refl
+whole_grain (editions.Two sequence) = refl
+
+pub whole_lists : (p : Publication) → IsPublication p → (tree : Tree) → AreEntriesOf Whole p.objects tree (p.entries tree)
+whole_lists p is tree = subst (λ (grain : Grain). AreEntriesOf grain p.objects tree (p.entries tree)) (whole_grain p.edition) (is.lists tree)
+
+pub lists_in : (edition : Edition) (objects : List Element) (tree : Tree) (entries : List Binding) → AreEntriesOf Whole objects tree entries → AreEntriesOf (grain_of edition) objects tree entries
+lists_in edition objects tree entries are = subst (λ (grain : Grain). AreEntriesOf grain objects tree entries) (sym (whole_grain edition)) are
+
 pub same_entries : (p q : Publication) → IsPublication p → IsPublication q → p.objects ≡ q.objects → (tree : Tree) → p.entries tree ≡ q.entries tree
-same_entries p q is are e tree = one_entry_list p.objects tree (p.entries tree) (q.entries tree) (is.lists tree) (subst (λ (objects : List Element). AreEntriesOf objects tree (q.entries tree)) (sym e) (are.lists tree))
+same_entries p q is are e tree =
+    one_entry_list Whole p.objects tree (p.entries tree) (q.entries tree) (whole_lists p is tree) (subst (λ (objects : List Element). AreEntriesOf Whole objects tree (q.entries tree)) (sym e) (whole_lists q are tree))
 
 pub same_root : (p q : Publication) → IsPublication p → IsPublication q → p.objects ≡ q.objects → p.edition ≡ q.edition → root_of p ≡ root_of q
 same_root p q is are e f =
@@ -71,11 +85,11 @@ same_root p q is are e f =
 -- a set that has a publication hasn't too many entries
 pub not_too_many : (objects : List Element) (edition : Edition) (p : Publication) → IsPublicationOf objects edition p → ¬ HasTooMany objects
 not_too_many objects edition p is (tree, entries, are, many) =
-    let mine = subst (λ (set : List Element). AreEntriesOf set tree (p.entries tree)) is.same_objects (is.published.lists tree) in
-    let same = ap length (one_entry_list objects tree entries (p.entries tree) are mine) in
+    let mine = subst (λ (set : List Element). AreEntriesOf Whole set tree (p.entries tree)) is.same_objects (whole_lists p is.published tree) in
+    let same = ap length (one_entry_list Whole objects tree entries (p.entries tree) are mine) in
     let few = is.published.few tree in
     omega (arith, many, same, few)
 
 -- each list of entries has a tree
 pub lists_have_trees : (p : Publication) → IsPublication p → (tree : Tree) → HasTree (p.entries tree)
-lists_have_trees p is tree = has_tree p.objects is.set tree (p.entries tree) (is.lists tree) (is.few tree)
+lists_have_trees p is tree = has_tree (grain_of p.edition) p.objects is.set tree (p.entries tree) (is.lists tree) (is.few tree)

@@ -24,6 +24,7 @@ use Rattle.tree_walk.specs.Walks.{IsEntryIn}
 use Rattle.tree_walk.proofs.shared.FoundLemmas.{those_rise}
 use Rattle.tree_walk.proofs.shared.KeyLemmas.{below_next}
 use Rattle.osm_keys.specs.Entries.{IsEntryOfSome, back_entry, object_entry, tag_entry}
+use Rattle.osm_keys.specs.Grains.{grain_of}
 use Rattle.osm_keys.specs.Keys.{back_key, id_bytes, ref_key, tag_key, tag_prefix}
 use Rattle.osm_keys.specs.Publications.{IsPublication, Publication}
 use Rattle.osm_keys.specs.Ranges.{IsKindOf, back_range, kind_bytes, kind_range, object_range, tag_key_range, tag_range, under_all}
@@ -86,13 +87,13 @@ in_object r key = (
 
 module _ (p : Publication) (is : IsPublication p) (tree : Tree) (found : List Binding) where
   module _ (range : Range) (those : AreThose (IsEntryIn range) (p.entries tree) found) where
-    pub found_is : (b : Binding) → Contains found b ↔ (IsEntryOfSome p.objects tree b × IsIn range b.key)
+    pub found_is : (b : Binding) → Contains found b ↔ (IsEntryOfSome (grain_of p.edition) p.objects tree b × IsIn range b.key)
     found_is b = (
       (λ h. let have = those_have (IsEntryIn range) (p.entries tree) found those b h in (((is.lists tree).members b).0 have.0, have.1)),
       (λ (e, inside). those_all (IsEntryIn range) (p.entries tree) found those b (((is.lists tree).members b).1 e) inside),
     )
 
-  pub found_under : (front : List ℕ) → AreThose (IsEntryIn (under_all front)) (p.entries tree) found → (b : Binding) → Contains found b ↔ (IsEntryOfSome p.objects tree b × Begins front b.key)
+  pub found_under : (front : List ℕ) → AreThose (IsEntryIn (under_all front)) (p.entries tree) found → (b : Binding) → Contains found b ↔ (IsEntryOfSome (grain_of p.edition) p.objects tree b × Begins front b.key)
   found_under front those b =
       let f = found_is (under_all front) those b in
       let u = in_under front b.key in (
@@ -109,7 +110,7 @@ kind_begins kind r = (
 )
 
 pub kind_found : (p : Publication) → IsPublication p → (kind : Kind) (found : List Binding) → AreThose (IsEntryIn (kind_range kind)) (p.entries Objects) found
-    → (b : Binding) → Contains found b ↔ ((o : Element) × Contains p.objects o × (kind_of o.body ≡ kind) × (b ≡ object_entry o))
+    → (b : Binding) → Contains found b ↔ ((o : Element) × Contains p.objects o × (kind_of o.body ≡ kind) × (b ≡ object_entry (grain_of p.edition) o))
 kind_found p is kind found those b =
     let f = found_under p is Objects found (kind_byte kind ∷ []) those b in (
       (λ h.
@@ -129,7 +130,7 @@ kind_rising p is kind found those = those_rise (IsEntryIn (kind_range kind)) Non
 -- ---- the range of one object
 
 pub object_is_found : (p : Publication) → IsPublication p → (r : Ref) → FitsSigned w64 r.id → (found : List Binding) → AreThose (IsEntryIn (object_range r)) (p.entries Objects) found
-    → (b : Binding) → Contains found b ↔ ((o : Element) × (object_at p.objects r ≡ Some o) × (b ≡ object_entry o))
+    → (b : Binding) → Contains found b ↔ ((o : Element) × (object_at p.objects r ≡ Some o) × (b ≡ object_entry (grain_of p.edition) o))
 object_is_found p is r fits found those b =
     let f = found_is p is Objects found (object_range r) those b in (
       (λ h.
@@ -178,7 +179,7 @@ begins_back target s None k = (ref_key s, ap (λ (front : List ℕ). front ++ re
 begins_back target s (Some kind) e = (id_bytes s.id, ap (λ (k : Kind). ref_key target ++ (kind_byte k ∷ id_bytes s.id)) e ∙ sym (append_assoc (ref_key target) (kind_byte kind ∷ []) (id_bytes s.id)))
 
 pub back_found : (p : Publication) → IsPublication p → (target : Ref) → FitsSigned w64 target.id → (kind : Option Kind) (found : List Binding) → AreThose (IsEntryIn (back_range target kind)) (p.entries Backs) found
-    → (b : Binding) → Contains found b ↔ ((o : Element) × Contains p.objects o × IsKindOf kind (reference o) × BodyLists o.body target × (b ≡ back_entry target (reference o)))
+    → (b : Binding) → Contains found b ↔ ((o : Element) × Contains p.objects o × IsKindOf kind (reference o) × BodyLists o.body target × (b ≡ back_entry (grain_of p.edition) target o))
 back_found p is target fits kind found those b =
     let front = ref_key target ++ kind_bytes kind in
     let f = found_under p is Backs found front those b in (
@@ -190,7 +191,7 @@ back_found p is target fits kind found those b =
           let begins : Begins front (back_key t (reference o)) = subst (λ (c : Binding). Begins front c.key) listed.2 x.1 in
           let parts = back_begins target t (reference o) kind begins in
           let same = same_ref t target (fits_of_lists o.body t (is_element p.objects o is.set x.0.1).body_in_range listed.1) fits parts.0 in
-          (o, x.0.1, parts.1, subst (λ (s : Ref). BodyLists o.body s) same listed.1, listed.2 ∙ ap (λ (s : Ref). back_entry s (reference o)) same)),
+          (o, x.0.1, parts.1, subst (λ (s : Ref). BodyLists o.body s) same listed.1, listed.2 ∙ ap (λ (s : Ref). back_entry (grain_of p.edition) s o) same)),
       (λ (o, there, k, lists, e).
           f.1 ((o, there, (target, lists, e)), subst (λ (c : Binding). Begins front c.key) (sym e) (begins_back target (reference o) kind k))),
     )
@@ -237,7 +238,7 @@ fits_kind None r h = (ref_key r, refl)
 fits_kind (Some k) r h = (id_bytes r.id, ap (λ (x : Kind). kind_byte x ∷ id_bytes r.id) h)
 
 pub tag_found : (p : Publication) → IsPublication p → (key value : List ℕ) → HasNoNul key → HasNoNul value → (kind : Option Kind) (found : List Binding) → AreThose (IsEntryIn (tag_range key value kind)) (p.entries Tags) found
-    → (b : Binding) → Contains found b ↔ ((o : Element) × Contains p.objects o × IsKindOf kind (reference o) × HasTag o key value × (b ≡ tag_entry key value (reference o)))
+    → (b : Binding) → Contains found b ↔ ((o : Element) × Contains p.objects o × IsKindOf kind (reference o) × HasTag o key value × (b ≡ tag_entry (grain_of p.edition) key value o))
 tag_found p is key value hk hv kind found those b =
     let front = tag_prefix key value ++ kind_bytes kind in
     let f = found_under p is Tags found front those b in (
@@ -254,12 +255,12 @@ tag_found p is key value hk hv kind found those b =
       (λ (o, there, k, (tag, at, ek, ev), e).
           let under = fits_kind kind (reference o) k in
           let begins : Begins front (tag_key key value (reference o)) = (under.0, ap (λ (t : List ℕ). tag_prefix key value ++ t) under.1 ∙ sym (append_assoc (tag_prefix key value) (kind_bytes kind) under.0)) in
-          let of : b ≡ tag_entry tag.key tag.value (reference o) = e ∙ rw (ek, ev) refl in
+          let of : b ≡ tag_entry (grain_of p.edition) tag.key tag.value o = e ∙ rw (ek, ev) refl in
           f.1 ((o, there, (tag, at, of)), subst (λ (c : Binding). Begins front c.key) (sym e) begins)),
     )
 
 pub tag_key_found : (p : Publication) → IsPublication p → (key : List ℕ) → HasNoNul key → (found : List Binding) → AreThose (IsEntryIn (tag_key_range key)) (p.entries Tags) found
-    → (b : Binding) → Contains found b ↔ ((o : Element) × (value : List ℕ) × Contains p.objects o × HasNoNul value × HasTag o key value × (b ≡ tag_entry key value (reference o)))
+    → (b : Binding) → Contains found b ↔ ((o : Element) × (value : List ℕ) × Contains p.objects o × HasNoNul value × HasTag o key value × (b ≡ tag_entry (grain_of p.edition) key value o))
 tag_key_found p is key hk found those b =
     let front = key ++ 0 ∷ [] in
     let f = found_under p is Tags found front those b in (
@@ -276,6 +277,6 @@ tag_key_found p is key hk found those b =
           (o, tag.value, x.0.1, clean.1, (tag, has.1, parts.0, refl), has.2 ∙ rw (parts.0) refl)),
       (λ (o, value, there, clean, (tag, at, ek, ev), e).
           let begins : Begins front (tag_key key value (reference o)) = ((value ++ 0 ∷ []) ++ ref_key (reference o), append_assoc (key ++ 0 ∷ []) (value ++ 0 ∷ []) (ref_key (reference o))) in
-          let of : b ≡ tag_entry tag.key tag.value (reference o) = e ∙ rw (ek, ev) refl in
+          let of : b ≡ tag_entry (grain_of p.edition) tag.key tag.value o = e ∙ rw (ek, ev) refl in
           f.1 ((o, there, (tag, at, of)), subst (λ (c : Binding). Begins front c.key) (sym e) begins)),
     )

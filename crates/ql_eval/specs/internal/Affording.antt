@@ -36,7 +36,7 @@ pub record Within {A F : Type 0} (cause_of : F → Cause) (Is : A → Type 0) (m
 -- what a base reads, and a step for each candidate
 abbrev pub WorkOfFinding : Publication → Env → Pick → Option Filter → ℕ → Type 0
 WorkOfFinding p env pick base n =
-    Both (WorkOfBase p.objects base) (OfSet (IsRefOf p.objects (IsSelected p.objects env pick (option_to_list base))) (λ found. Steps (length found))) n
+    Both (WorkOfBase p base) (OfSet (IsRefOf p.objects (IsSelected p.objects env pick (option_to_list base))) (λ found. Steps (length found))) n
 
 -- so many steps are a part of this work
 abbrev pub IsPartOf : (ℕ → Type 0) → ℕ → Type 0

@@ -12,6 +12,7 @@ use Rattle.tree_node.specs.Nodes.{Binding}
 use Rattle.tree_node.specs.declared.tree.Tree.{Tree}
 use Rattle.tree_node.specs.declared.tree.Tree.TheVariants.{Cells}
 use Rattle.osm_keys.specs.Entries.{object_entry}
+use Rattle.osm_keys.specs.Grains.{Whole}
 use Rattle.ql_eval.specs.Forms.{HasForm, Names, SaysObject, SaysPlace}
 use Rattle.ql_eval.specs.Questions.{OfKind, Question, ThatList, WithKey, WithTag}
 use Rattle.ql_eval.specs.declared.fault.EvalFault.{EvalFault}
@@ -52,7 +53,7 @@ IsPutBy found (Some o) = (b : Binding) × Contains found b × SaysObject b o
 
 -- what the range of one object finds
 abbrev pub IsFoundAs : List Element → Ref → List Binding → Type 0
-IsFoundAs objects r found = (b : Binding) → Contains found b ↔ ((o : Element) × (object_at objects r ≡ Some o) × (b ≡ object_entry o))
+IsFoundAs objects r found = (b : Binding) → Contains found b ↔ ((o : Element) × (object_at objects r ≡ Some o) × (b ≡ object_entry Whole o))
 
 -- an object of the list has the reference
 abbrev pub IsThere : List Element → Ref → Type 0

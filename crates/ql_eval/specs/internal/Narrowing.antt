@@ -12,10 +12,12 @@ use Rattle.ql_syntax.specs.Filters.{Filter, InSet, HasKey, KeyIs, LacksKey, KeyI
 use Rattle.ql_syntax.specs.declared.path.Path.{Path}
 use Rattle.ql_syntax.specs.declared.path.Path.TheVariants as paths
 use Rattle.ql_meaning.specs.ObjectTests.{PassesAlone}
+use Rattle.osm_keys.specs.Grains.{grain_of}
+use Rattle.osm_keys.specs.Publications.{Publication}
 use Rattle.ref_sets.specs.NamedSets.{Env}
 use Rattle.ql_meaning.specs.Values.{IsRefOf}
 use Rattle.ql_eval.specs.Asks.{AskedFor, IsListedBy, IsOfKindIn}
-use Rattle.ql_eval.specs.Questions.{Ask, object_ask}
+use Rattle.ql_eval.specs.Questions.{Ask, line_ask}
 
 -- ---- what is asked of the object
 
@@ -67,13 +69,13 @@ IsNamedOnPath objects set paths.Bn r = ⊤
 IsNamedOnPath objects set paths.Bw r = ⊤
 IsNamedOnPath objects set paths.Br r = ⊤
 
--- and asks the ways or relations of the set
-abbrev pub AskedByPathDown : List Ref → Path → Ask → Type 0
-AskedByPathDown set paths.W ask = AskedFor (IsOfKindIn set kinds.Way) object_ask ask
-AskedByPathDown set paths.R ask = AskedFor (IsOfKindIn set kinds.Rel) object_ask ask
-AskedByPathDown set paths.Bn ask = ⊥
-AskedByPathDown set paths.Bw ask = ⊥
-AskedByPathDown set paths.Br ask = ⊥
+-- and asks the lines of the ways or relations of the set
+abbrev pub AskedByPathDown : Publication → List Ref → Path → Ask → Type 0
+AskedByPathDown p set paths.W ask = AskedFor (IsOfKindIn set kinds.Way) (line_ask (grain_of p.edition)) ask
+AskedByPathDown p set paths.R ask = AskedFor (IsOfKindIn set kinds.Rel) (line_ask (grain_of p.edition)) ask
+AskedByPathDown p set paths.Bn ask = ⊥
+AskedByPathDown p set paths.Bw ask = ⊥
+AskedByPathDown p set paths.Br ask = ⊥
 
 -- the filter names it
 abbrev pub IsNamedBy : List Element → Env → Ref → Filter → Type 0

@@ -24,8 +24,8 @@ Recalls remembered how set refs = (one : Remembered) × Contains remembered one 
 -- used node have one digest
 abbrev pub IsRecalled : Publication → (List ℕ → Type 0) → Recursion → List Ref → List Ref → Type 0
 IsRecalled p used how set refs =
-    Clash (NeededBy p (AskedByRecursion p.objects how set)) used
-    ⊎ (IsSetOf refs (IsRefOf p.objects (IsReached p.objects how set)) × ((bytes : List ℕ) → NeededBy p (AskedByRecursion p.objects how set) bytes → used bytes))
+    Clash (NeededBy p (AskedByRecursion p how set)) used
+    ⊎ (IsSetOf refs (IsRefOf p.objects (IsReached p.objects how set)) × ((bytes : List ℕ) → NeededBy p (AskedByRecursion p how set) bytes → used bytes))
 
 -- so is each that is remembered
 abbrev pub AreRecalled : Publication → (List ℕ → Type 0) → List Remembered → Type 0

@@ -4,15 +4,17 @@ use Rattle.std.specs.List.{AllByRecursion, Contains}
 use Rattle.osm_model.specs.Elements.{Element}
 use Rattle.osm_model.specs.declared.reference.Ref.{Ref}
 use Rattle.ql_syntax.specs.Filters.{Filter}
+use Rattle.osm_keys.specs.Grains.{grain_of}
+use Rattle.osm_keys.specs.Publications.{Publication}
 use Rattle.ref_sets.specs.NamedSets.{Env}
 use Rattle.ql_meaning.specs.Values.{IsRefOf, Passes}
 use Rattle.ql_eval.specs.Asks.{AskedByRest, AskedFor}
-use Rattle.ql_eval.specs.Questions.{Ask, object_ask}
+use Rattle.ql_eval.specs.Questions.{Ask, line_ask}
 
--- what filters ask that are left over, and each candidate
-abbrev pub IsTestAsk : Env → List Filter → List Ref → Ask → Type 0
-IsTestAsk env rest candidates ask =
-    ((filter : Filter) × Contains rest filter × AskedByRest env filter ask) ⊎ ((rest ≢ []) × AskedFor (Contains candidates) object_ask ask)
+-- what filters ask that are left over, and the line of each candidate
+abbrev pub IsTestAsk : Publication → Env → List Filter → List Ref → Ask → Type 0
+IsTestAsk p env rest candidates ask =
+    ((filter : Filter) × Contains rest filter × AskedByRest p env filter ask) ⊎ ((rest ≢ []) × AskedFor (Contains candidates) (line_ask (grain_of p.edition)) ask)
 
 -- all these filters keep the object with the reference
 abbrev pub IsKeptBy : List Element → Env → List Filter → Ref → Type 0

@@ -1,5 +1,6 @@
 use Rattle.std.proofs.Common.{◌≡◌, ◌∙◌, ◌<◌, sym, ap, subst, Err, List, ◌++◌, None, length}
 use Rattle.osm_keys.specs.Entries.{AreEntriesOf}
+use Rattle.osm_keys.specs.Grains.{Whole}
 use Rattle.tree_node.specs.Nodes.{Binding}
 use Rattle.tree_node.specs.declared.limits.TheConstants.{ENTRY_LIMIT}
 use Rattle.entry_sort.specs.internal.Once.{once_from}
@@ -13,7 +14,7 @@ returns-in-Ok-clause-taken g c is_true set is_set h empty =
     let none = c.begin.ensures.untaken c.args.tree ∙ empty in
     let are = are_entries set is_set c.args.tree h.records given h.members order rises in
     on_ok c.give_sorted.result
-    (λ same. subst (AreEntriesOf set c.args.tree) (sym (same ∙ ap (λ (bs : List Binding). bs ++ once_from None given) none)) are)
+    (λ same. subst (AreEntriesOf Whole set c.args.tree) (sym (same ∙ ap (λ (bs : List Binding). bs ++ once_from None given) none)) are)
     (c.give_sorted.ensures.taken is_true given gives)
 
 pub returns-in-Ok-clause-many : goal.returns-in-Ok-clause-many

@@ -2,6 +2,7 @@ use Rattle.std.proofs.Common.{◌≡◌, List, ◌++◌, map, sym, subst}
 use Rattle.external_sort.specs.Records.{Entry}
 use Rattle.external_sort.specs.Sorting.{Holds}
 use Rattle.osm_keys.specs.Entries.{AreEntriesOf}
+use Rattle.osm_keys.specs.Grains.{Whole}
 use Rattle.tree_node.specs.NodeRefs.{bindings_of as bindings_in}
 use Rattle.tree_node.specs.declared.item.Item.{Item}
 use Rattle.entry_sort.specs.internal.Once.{record_of}
@@ -13,8 +14,8 @@ returns-clause-held g c =
     let items = c.deref.result.now in
     let members = c.in_ok-entries.ensures.members c.in_ok-list.ensures.keyed in
     let of_list = c.in_ok-list.ensures.members in
-    let are : AreEntriesOf c.args.set.now c.args.tree (bindings_in items) =
-    subst (λ (xs : List Item). AreEntriesOf c.args.set.now c.args.tree (bindings_in xs)) (sym c.deref.ensures.value)
+    let are : AreEntriesOf Whole c.args.set.now c.args.tree (bindings_in items) =
+    subst (λ (xs : List Item). AreEntriesOf Whole c.args.set.now c.args.tree (bindings_in xs)) (sym c.deref.ensures.value)
     (record { rising = c.in_ok-entries.ensures.rising; members = λ b. ((λ h. (of_list b).0 ((members b).0 h)), (λ h. (members b).1 ((of_list b).1 h))) }) in
     on_ok c.push_all.result
     (λ held objects h. record {
@@ -29,7 +30,7 @@ returns-clause-short g c =
     let items = c.deref.result.now in
     let members = c.in_ok-entries.ensures.members c.in_ok-list.ensures.keyed in
     let of_list = c.in_ok-list.ensures.members in
-    let are : AreEntriesOf c.args.set.now c.args.tree (bindings_in items) =
-    subst (λ (xs : List Item). AreEntriesOf c.args.set.now c.args.tree (bindings_in xs)) (sym c.deref.ensures.value)
+    let are : AreEntriesOf Whole c.args.set.now c.args.tree (bindings_in items) =
+    subst (λ (xs : List Item). AreEntriesOf Whole c.args.set.now c.args.tree (bindings_in xs)) (sym c.deref.ensures.value)
     (record { rising = c.in_ok-entries.ensures.rising; members = λ b. ((λ h. (of_list b).0 ((members b).0 h)), (λ h. (members b).1 ((of_list b).1 h))) }) in
     c.push_all.ensures.short (entries_short c.args.set.now c.as_slice-set.ensures.set c.args.tree items are)

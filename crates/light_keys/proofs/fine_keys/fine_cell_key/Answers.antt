@@ -2,7 +2,7 @@ use Rattle.std.proofs.Common.{◌≡◌, refl, arith, FitsSigned, w64, rules}
 use Rattle.std.proofs.lemmas.Int.{to_z-of_z}
 use Rattle.osm_keys.specs.Keys.{id_bytes}
 use Rattle.osm_keys.proofs.Ids.{same_number}
-use Rattle.light_keys.specs.FineKeys.{fine_column, fine_corner, fine_row}
+use Rattle.osm_keys.specs.FineKeys.{fine_column, fine_corner, fine_row}
 use Rattle.light_keys.proofs.FineLemmas.{key_parts}
 use Rattle.light_keys.proofs.fine_keys.fine_cell_key.Goals as goal
 

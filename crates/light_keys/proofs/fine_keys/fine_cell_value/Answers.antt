@@ -1,7 +1,7 @@
 use Rattle.std.proofs.Common.{◌≡◌, ◌++◌, List, ℕ, FitsSigned, w32, refl, ap, ◌∙◌, rules}
 use Rattle.std.specs.Int.{cast_unsigned, to_be_bytes}
 use Rattle.std.proofs.lemmas.Int.{to_z-of_z}
-use Rattle.light_keys.specs.FineKeys.{latitude_bytes}
+use Rattle.osm_keys.specs.FineKeys.{latitude_bytes}
 use Rattle.light_keys.proofs.FineLemmas.{value_filled}
 use Rattle.light_keys.proofs.fine_keys.fine_cell_value.Goals as goal
 

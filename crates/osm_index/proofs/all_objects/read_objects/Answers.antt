@@ -3,6 +3,7 @@ use Rattle.std.proofs.lemmas.List.{length-map, take_all}
 use Rattle.tree_build.specs.declared.rebuild_fault.RebuildFault.TheVariants.{Memory}
 use Rattle.tree_node.specs.NodeRefs.{binding_of}
 use Rattle.osm_keys.specs.Entries.{object_entry}
+use Rattle.osm_keys.specs.Grains.{Whole}
 use Rattle.osm_index.proofs.ChangeTreeLemmas.{refused_as}
 use Rattle.osm_index.proofs.EntryObjects.{object_in, object_more}
 use Rattle.osm_index.proofs.all_objects.read_objects.Goals as goal
@@ -20,5 +21,5 @@ returns-in_err-read_object-clause-told c = λ objects are.
 pub returns-clause-read : goal.returns-clause-read
 returns-clause-read c = λ objects are.
     let same = ap length are.entries_are in
-    let many : length objects ≡ length c.args.entries.now = omega (arith, same, length-map objects object_entry, length-map c.args.entries.now binding_of) in
+    let many : length objects ≡ length c.args.entries.now = omega (arith, same, length-map objects (object_entry Whole), length-map c.args.entries.now binding_of) in
     c.loop-entry.invariant objects are ∙ take_all c.loop-entry.entry-index objects (omega arith)

@@ -3,6 +3,7 @@ use Rattle.std.proofs.lemmas.List.{length-append}
 use Rattle.osm_model.specs.CanonicalLine.{canonical_line}
 use Rattle.osm_model.specs.Elements.{reference}
 use Rattle.osm_keys.specs.Entries.{object_entry}
+use Rattle.osm_keys.specs.Grains.{Whole}
 use Rattle.osm_keys.specs.Keys.{ref_key}
 use Rattle.osm_index.proofs.ListingLemmas.{gains_one, line_left}
 use Rattle.osm_keys.proofs.shared.KeyLengths.{ref_key_len}
@@ -32,4 +33,4 @@ returns c =
     let front = c.in_ok-extend_from_slice.ensures.items ∙ ap (λ (t : List ℕ). c.args.bytes.now.items ++ t) (c.reference_key.ensures ∙ ap ref_key c.reference.ensures.value) in
     let texts : c.pop.new.self.items ≡ c.args.bytes.now.items ++ (ref_key (reference o) ++ canonical_line o) = line ∙ ap (λ (t : List ℕ). t ++ canonical_line o) front ∙ append_assoc c.args.bytes.now.items (ref_key (reference o)) (canonical_line o) in
     let value : c.len.result - c.len-start.result ≡ length (canonical_line o) = omega (arith, c.pop.new.self.ok.0, c.extend_from_slice.new.self.ok.0, longer, sum) in
-    gains_one _ _ _ _ (object_entry o) 9 (length (canonical_line o)) texts (rw (c.in_ok-push.ensures.items, value) refl) (ref_key_len (reference o)) refl
+    gains_one _ _ _ _ (object_entry Whole o) 9 (length (canonical_line o)) texts (rw (c.in_ok-push.ensures.items, value) refl) (ref_key_len (reference o)) refl

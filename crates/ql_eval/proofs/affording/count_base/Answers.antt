@@ -24,7 +24,7 @@ use Rattle.ql_eval.proofs.affording.count_base.Goals as goal
 
 -- how the entries of a base are counted, and the objects of kinds
 abbrev CountedWell : Publication → Env → Pick → Option tree.Filter → ShelfUse → Result ℕ EvalFault → Type 0
-CountedWell p env pick base shelf result = Within cause_of_evaluation (IsPartOf (WorkOfFinding p env pick base)) (NeededBy p (AskedByBase p.objects env (kind_picked pick) base)) shelf result
+CountedWell p env pick base shelf result = Within cause_of_evaluation (IsPartOf (WorkOfFinding p env pick base)) (NeededBy p (AskedByBase p env (kind_picked pick) base)) shelf result
 
 abbrev KindsCounted : Publication → Option Kind → ShelfUse → Result ℕ EvalFault → Type 0
 KindsCounted p kind shelf result = Within cause_of_evaluation (IsWithinSet (From (kinds_of kind) (IsOfThisKind p.objects))) (NeededBy p (From (kinds_of kind) IsKindAsk)) shelf result

@@ -23,7 +23,7 @@ use Rattle.ql_eval.proofs.affording.count_kept.Goals as goal
 
 -- how the entries of a filter are counted
 abbrev CountedWell : Publication → Env → Pick → Filter → ShelfUse → Result ℕ EvalFault → Type 0
-CountedWell p env pick filter shelf result = affording.Within cause_of_evaluation (IsPartOf (WorkOfFinding p env pick (Some filter))) (NeededBy p (AskedByBase p.objects env (kind_picked pick) (Some filter))) shelf result
+CountedWell p env pick filter shelf result = affording.Within cause_of_evaluation (IsPartOf (WorkOfFinding p env pick (Some filter))) (NeededBy p (AskedByBase p env (kind_picked pick) (Some filter))) shelf result
 
 pub returns-in-KeyIs-clause-answer : goal.returns-in-KeyIs-clause-answer
 returns-in-KeyIs-clause-answer g c = λ p env is reads allowed.

@@ -30,8 +30,8 @@ returns-in-Print-clause-answer g c = λ p is under known there top.
     let refs : c.get.result.now ≡ lists_of c.args.sets.now.named.items c.in-Print.out.from =
     subst (λ (name : List ℕ). c.get.result.now ≡ lists_of c.args.sets.now.named.items name) c.as_bytes.ensures c.get.ensures in
     truly_same
-    (needed_as (λ ask asked. subst (λ (s : Stmt). AskedBy p (statement_of s) env ask) (sym c.in-Print.is) (subst (λ (rs : List Ref). AskedByOut rs out.mode out.limit ask) refs asked)))
-    (λ value so. needed_as (λ ask asked. subst (λ (rs : List Ref). AskedByOut rs out.mode out.limit ask) (sym refs) (subst (λ (s : Stmt). AskedBy p (statement_of s) env ask) c.in-Print.is asked)))
+    (needed_as (λ ask asked. subst (λ (s : Stmt). AskedBy p (statement_of s) env ask) (sym c.in-Print.is) (subst (λ (rs : List Ref). AskedByOut p rs out.mode out.limit ask) refs asked)))
+    (λ value so. needed_as (λ ask asked. subst (λ (rs : List Ref). AskedByOut p rs out.mode out.limit ask) (sym refs) (subst (λ (s : Stmt). AskedBy p (statement_of s) env ask) c.in-Print.is asked)))
     (λ value so. (
       subst (λ (s : Stmt). After p.objects (statement_of s) env env) (sym c.in-Print.is) refl,
       subst (λ (s : Stmt). HasWritten (g.T.Sink.stands c.args.sink.now) (g.T.Sink.stands c.print.new.sink) (told_by (form_text c.args.form) p.objects (statement_of s) env)) (sym c.in-Print.is)

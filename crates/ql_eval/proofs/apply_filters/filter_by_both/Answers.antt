@@ -11,14 +11,14 @@ use Rattle.ql_eval.proofs.apply_filters.filter_by_both.Goals as goal
 
 pub returns-in_err-left-clause-answer : goal.returns-in_err-left-clause-answer
 returns-in_err-left-clause-answer g c = λ p is under there.
-    outcome_stops _ c.from_residual.ensures.1 refl (first_asks (AskedByRest (lists_of c.args.sets.now.named.items)) (filters_of c.args.before.now) (filters_of c.args.after.now)) (c.in_err-left.ensures.answer p is under there)
+    outcome_stops _ c.from_residual.ensures.1 refl (first_asks (AskedByRest p (lists_of c.args.sets.now.named.items)) (filters_of c.args.before.now) (filters_of c.args.after.now)) (c.in_err-left.ensures.answer p is under there)
 
 pub returns-clause-answer : goal.returns-clause-answer
 returns-clause-answer g c = λ p is under there.
     let env = lists_of c.args.sets.now.named.items in
     let first = filters_of c.args.before.now in
     let second = filters_of c.args.after.now in
-    truly_then_same (λ x. g.met.W.Source.grows _ _ x c.filter_by_reference-2.ensures.later) (first_asks (AskedByRest env) first second) (λ so. second_asks (AskedByRest env) first second) (λ so b next. either_asks (AskedByRest env) first second)
+    truly_then_same (λ x. g.met.W.Source.grows _ _ x c.filter_by_reference-2.ensures.later) (first_asks (AskedByRest p env) first second) (λ so. second_asks (AskedByRest p env) first second) (λ so b next. either_asks (AskedByRest p env) first second)
     (λ so b next. narrowed_both p.objects env c.args.refs first second c.in_ok-left.left b so next)
     (c.in_ok-left.ensures.answer p is under there) (λ so under_now. c.filter_by_reference-2.ensures.answer p is under_now there)
 

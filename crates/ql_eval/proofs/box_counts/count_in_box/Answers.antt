@@ -3,6 +3,7 @@ use Rattle.std.specs.List.{Contains}
 use Rattle.tree_node.specs.declared.tree.Tree.TheVariants.{Cells}
 use Rattle.tree_walk.specs.Ranges.{IsIn, Range}
 use Rattle.tree_walk.proofs.shared.WalksGivenLaws.{given_none, given_then}
+use Rattle.osm_keys.specs.Grains.{grain_of}
 use Rattle.osm_keys.specs.Publications.{Publication}
 use Rattle.osm_keys.specs.Ranges.{AreCellRanges}
 use Rattle.ref_sets.specs.Adding.{From}
@@ -16,6 +17,7 @@ use Rattle.ql_eval.proofs.AffordingLemmas.{counted_needs, ranges_fit, ranges_non
 use Rattle.ql_eval.proofs.BoxLemmas.{box_needs}
 use Rattle.ql_eval.proofs.StepLemmas.{refused_as, walk_cause}
 use Rattle.ql_eval.proofs.WalkLemmas.{walk_told}
+use Rattle.ql_eval.proofs.WholeLemmas.{boxed}
 use Rattle.ql_eval.proofs.box_counts.count_in_box.Goals as goal
 
 -- counting the entries of one of the ranges uses what listing them uses
@@ -69,6 +71,6 @@ returns-clause-answer g c = λ p is under.
     let are = subst (λ (list : List Range). AreCellRanges c.args.area.now list) (sym c.deref-keys-items.ensures.value) c.in_ok-ranges.ensures in
     within_as (box_needs p is c.args.area.now ranges are)
     (λ (first, second).
-    one_of (IsWithinSet (IsRefOf p.objects (IsInCellsOf c.args.area.now))) c.loop-keys.chains.first.number c.loop-keys.chains.second.number c.greater.result c.greater.ensures.one
-    (ranges_fit p is c.args.area.now ranges _ _ are first) (ranges_fit p is c.args.area.now ranges _ _ are second))
+    one_of (IsWithinSet (IsRefOf p.objects (IsInCellsOf (grain_of p.edition) c.args.area.now))) c.loop-keys.chains.first.number c.loop-keys.chains.second.number c.greater.result c.greater.ensures.one
+    (ranges_fit p is c.args.area.now ranges _ _ (boxed p c.args.area.now ranges are) first) (ranges_fit p is c.args.area.now ranges _ _ (boxed p c.args.area.now ranges are) second))
     (c.loop-keys.invariant.answer p is under)

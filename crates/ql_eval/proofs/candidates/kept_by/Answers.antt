@@ -88,29 +88,29 @@ pub returns-in-Ids-clause-bounded : goal.returns-in-Ids-clause-bounded
 returns-in-Ids-clause-bounded g c = λ p is under there allowed clear. still _ _
 
 pub returns-in-Ids-clause-spent : goal.returns-in-Ids-clause-spent
-returns-in-Ids-clause-spent g c = on_ok_as c.with_ids.result (λ walked p is under there allowed clear. subst (λ (f : Filter). IsSpent (WorkOfBase p.objects (Some f)) c.args.meter.now.spent c.args.meter.now.spent) (sym (ap filter_of c.in-Ids.is)) (nothing_spent _)) c.with_ids.ensures.walked
+returns-in-Ids-clause-spent g c = on_ok_as c.with_ids.result (λ walked p is under there allowed clear. subst (λ (f : Filter). IsSpent (WorkOfBase p (Some f)) c.args.meter.now.spent c.args.meter.now.spent) (sym (ap filter_of c.in-Ids.is)) (nothing_spent _)) c.with_ids.ensures.walked
 
 pub returns-in-Via-clause-bounded : goal.returns-in-Via-clause-bounded
 returns-in-Via-clause-bounded g c = λ p is under there allowed clear. still _ _
 
 pub returns-in-Via-clause-spent : goal.returns-in-Via-clause-spent
-returns-in-Via-clause-spent g c = on_ok_as c.on_path.result (λ walked p is under there allowed clear. subst (λ (f : Filter). IsSpent (WorkOfBase p.objects (Some f)) c.args.meter.now.spent c.args.meter.now.spent) (sym (ap filter_of c.in-Via.is)) (nothing_spent _)) c.on_path.ensures.walked
+returns-in-Via-clause-spent g c = on_ok_as c.on_path.result (λ walked p is under there allowed clear. subst (λ (f : Filter). IsSpent (WorkOfBase p (Some f)) c.args.meter.now.spent c.args.meter.now.spent) (sym (ap filter_of c.in-Via.is)) (nothing_spent _)) c.on_path.ensures.walked
 
 pub returns-in-KeyIs-clause-bounded : goal.returns-in-KeyIs-clause-bounded
 returns-in-KeyIs-clause-bounded g c = λ p is under there allowed clear. still _ _
 
 pub returns-in-KeyIs-clause-spent : goal.returns-in-KeyIs-clause-spent
-returns-in-KeyIs-clause-spent g c = on_ok_as c.names.result (λ walked p is under there allowed clear. subst (λ (f : Filter). IsSpent (WorkOfBase p.objects (Some f)) c.args.meter.now.spent c.args.meter.now.spent) (sym (ap filter_of c.in-KeyIs.is)) (nothing_spent _)) c.names.ensures.walked
+returns-in-KeyIs-clause-spent g c = on_ok_as c.names.result (λ walked p is under there allowed clear. subst (λ (f : Filter). IsSpent (WorkOfBase p (Some f)) c.args.meter.now.spent c.args.meter.now.spent) (sym (ap filter_of c.in-KeyIs.is)) (nothing_spent _)) c.names.ensures.walked
 
 pub returns-in-Within-clause-bounded : goal.returns-in-Within-clause-bounded
 returns-in-Within-clause-bounded g c = λ p is under there allowed clear.
     let filter : filter_of c.args.filter.now ≡ Within c.deref.result.now = ap filter_of c.in-Within.is ∙ ap (λ (a : ExactBox). Within a) (sym c.deref.ensures) in
-    subst (λ (f : Filter). IsBounded (WorkOfBase p.objects (Some f)) c.args.meter.now.spent c.in_box.new.meter.spent) (sym filter) (c.in_box.ensures.bounded p is under clear)
+    subst (λ (f : Filter). IsBounded (WorkOfBase p (Some f)) c.args.meter.now.spent c.in_box.new.meter.spent) (sym filter) (c.in_box.ensures.bounded p is under clear)
 
 pub returns-in-Within-clause-spent : goal.returns-in-Within-clause-spent
 returns-in-Within-clause-spent g c = on_ok_as c.in_box.result (λ spent p is under there allowed clear.
     let filter : filter_of c.args.filter.now ≡ Within c.deref.result.now = ap filter_of c.in-Within.is ∙ ap (λ (a : ExactBox). Within a) (sym c.deref.ensures) in
-    subst (λ (f : Filter). IsSpent (WorkOfBase p.objects (Some f)) c.args.meter.now.spent c.in_box.new.meter.spent) (sym filter) (spent p is under clear)) c.in_box.ensures.spent
+    subst (λ (f : Filter). IsSpent (WorkOfBase p (Some f)) c.args.meter.now.spent c.in_box.new.meter.spent) (sym filter) (spent p is under clear)) c.in_box.ensures.spent
 
 pub returns-in_err-picked-in-InSet-clause-bounded : goal.returns-in_err-picked-in-InSet-clause-bounded
 returns-in_err-picked-in-InSet-clause-bounded g c = λ p is under there allowed clear. still _ _
@@ -119,20 +119,20 @@ pub returns-in_ok-picked-in-InSet-clause-bounded : goal.returns-in_ok-picked-in-
 returns-in_ok-picked-in-InSet-clause-bounded g c = λ p is under there allowed clear. still _ _
 
 pub returns-in_ok-picked-in-InSet-clause-spent : goal.returns-in_ok-picked-in-InSet-clause-spent
-returns-in_ok-picked-in-InSet-clause-spent g c = λ p is under there allowed clear. subst (λ (f : Filter). IsSpent (WorkOfBase p.objects (Some f)) c.args.meter.now.spent c.args.meter.now.spent) (sym (ap filter_of c.in-InSet.is)) (nothing_spent _)
+returns-in_ok-picked-in-InSet-clause-spent g c = λ p is under there allowed clear. subst (λ (f : Filter). IsSpent (WorkOfBase p (Some f)) c.args.meter.now.spent c.args.meter.now.spent) (sym (ap filter_of c.in-InSet.is)) (nothing_spent _)
 
 pub returns-in-HasKey-clause-bounded : goal.returns-in-HasKey-clause-bounded
 returns-in-HasKey-clause-bounded g c = λ p is under there allowed clear.
     let key = c.as_bytes-in-HasKey.result.now in
     let filter : filter_of c.args.filter.now ≡ HasKey key = ap filter_of c.in-HasKey.is ∙ ap (λ (k : List ℕ). HasKey k) (sym c.as_bytes-in-HasKey.ensures) in
-    subst (λ (f : Filter). IsBounded (WorkOfBase p.objects (Some f)) c.args.meter.now.spent c.with_key.new.meter.spent) (sym filter)
+    subst (λ (f : Filter). IsBounded (WorkOfBase p (Some f)) c.args.meter.now.spent c.with_key.new.meter.spent) (sym filter)
     (c.with_key.ensures.bounded p is under (subst (λ (f : Filter). Allows c.args.pick f) filter allowed) clear)
 
 pub returns-in-HasKey-clause-spent : goal.returns-in-HasKey-clause-spent
 returns-in-HasKey-clause-spent g c = on_ok_as c.with_key.result (λ spent p is under there allowed clear.
     let key = c.as_bytes-in-HasKey.result.now in
     let filter : filter_of c.args.filter.now ≡ HasKey key = ap filter_of c.in-HasKey.is ∙ ap (λ (k : List ℕ). HasKey k) (sym c.as_bytes-in-HasKey.ensures) in
-    subst (λ (f : Filter). IsSpent (WorkOfBase p.objects (Some f)) c.args.meter.now.spent c.with_key.new.meter.spent) (sym filter)
+    subst (λ (f : Filter). IsSpent (WorkOfBase p (Some f)) c.args.meter.now.spent c.with_key.new.meter.spent) (sym filter)
     (spent p is under (subst (λ (f : Filter). Allows c.args.pick f) filter allowed) clear)) c.with_key.ensures.spent
 
 pub with_ids-requires : goal.with_ids-requires

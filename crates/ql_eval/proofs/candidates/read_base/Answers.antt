@@ -38,16 +38,16 @@ returns-in-None-clause-bounded g c = λ p is under there lawful clear. still _ _
 
 pub returns-in-None-clause-spent : goal.returns-in-None-clause-spent
 returns-in-None-clause-spent g c = on_ok_as c.of_kinds.result (λ walked p is under there lawful clear.
-    subst (λ (b : Option (Bor Filter)). IsSpent (WorkOfBase p.objects (option_map (λ f. filter_of f.now) b)) c.args.meter.now.spent c.args.meter.now.spent) (sym c.in-None.is) (nothing_spent _)) c.of_kinds.ensures.walked
+    subst (λ (b : Option (Bor Filter)). IsSpent (WorkOfBase p (option_map (λ f. filter_of f.now) b)) c.args.meter.now.spent c.args.meter.now.spent) (sym c.in-None.is) (nothing_spent _)) c.of_kinds.ensures.walked
 
 pub returns-in-Some-clause-bounded : goal.returns-in-Some-clause-bounded
 returns-in-Some-clause-bounded g c = λ p is under there lawful clear.
-    subst (λ (b : Option (Bor Filter)). IsBounded (WorkOfBase p.objects (option_map (λ f. filter_of f.now) b)) c.args.meter.now.spent c.kept_by.new.meter.spent) (sym c.in-Some.is)
+    subst (λ (b : Option (Bor Filter)). IsBounded (WorkOfBase p (option_map (λ f. filter_of f.now) b)) c.args.meter.now.spent c.kept_by.new.meter.spent) (sym c.in-Some.is)
     (c.kept_by.ensures.bounded p is under there (subst (λ (b : Option (Bor Filter)). ForSome (option_map (λ f. filter_of f.now) b) (Allows c.args.pick)) c.in-Some.is lawful _ refl) clear)
 
 pub returns-in-Some-clause-spent : goal.returns-in-Some-clause-spent
 returns-in-Some-clause-spent g c = on_ok_as c.kept_by.result (λ spent p is under there lawful clear.
-    subst (λ (b : Option (Bor Filter)). IsSpent (WorkOfBase p.objects (option_map (λ f. filter_of f.now) b)) c.args.meter.now.spent c.kept_by.new.meter.spent) (sym c.in-Some.is)
+    subst (λ (b : Option (Bor Filter)). IsSpent (WorkOfBase p (option_map (λ f. filter_of f.now) b)) c.args.meter.now.spent c.kept_by.new.meter.spent) (sym c.in-Some.is)
     (spent p is under there (subst (λ (b : Option (Bor Filter)). ForSome (option_map (λ f. filter_of f.now) b) (Allows c.args.pick)) c.in-Some.is lawful _ refl) clear)) c.kept_by.ensures.spent
 
 pub kept_by-requires-clause-asked : goal.kept_by-requires-clause-asked

@@ -190,7 +190,7 @@ returns-clause-answer g c = λ p is under there.
     let refs = c.loop-at.found.refs.items in
     let all : take c.loop-at.at refs ≡ refs = take_all c.loop-at.at refs (omega arith) in
     truly_as (chain_ends p direction from (take c.loop-at.at refs))
-    (λ so x needs. subst (λ (followed : List Ref). NeededBy p (IsChainAsk direction p.objects from followed) x) (sym all) (ends_chain p direction from refs (subst (λ (followed : List Ref). AreChained direction p.objects from followed refs) all so) x needs))
+    (λ so x needs. subst (λ (followed : List Ref). NeededBy p (IsChainAsk direction p from followed) x) (sym all) (ends_chain p direction from refs (subst (λ (followed : List Ref). AreChained direction p.objects from followed refs) all so) x needs))
     (λ so. chained_all direction p.objects from refs _ (subst (λ (followed : List Ref). AreChained direction p.objects from followed refs) all so) c.from_refs.ensures)
     (c.loop-at.invariant.answer p is under there)
 

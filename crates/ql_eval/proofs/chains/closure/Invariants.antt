@@ -22,7 +22,7 @@ invariant-loop-at g l = record {
   named : AllGiven (g.W.Source.gave l.source) l.found.refs.items;
   answer : (p : Publication) → IsPublication p → g.W.Source.under l.fn.source p → AreThere p.objects l.from
       → Outcome cause_of_evaluation (λ (_ : Unit {0}). AreChained l.direction p.objects l.from (take l.at l.found.refs.items) l.found.refs.items × g.W.Source.under l.source p)
-      (NeededBy p (IsChainAsk l.direction p.objects l.from (take l.at l.found.refs.items))) (uses (g.W.Source.holds l.source) (g.W.Source.used l.fn.source) (g.W.Source.used l.source)) (Ok tt);
+      (NeededBy p (IsChainAsk l.direction p l.from (take l.at l.found.refs.items))) (uses (g.W.Source.holds l.source) (g.W.Source.used l.fn.source) (g.W.Source.used l.source)) (Ok tt);
 }
 
 abbrev pub decreases-loop-at : goal.decreases-loop-at

@@ -8,7 +8,7 @@ use Rattle.ql_eval.proofs.KnownLemmas.{known_more, there_later}
 use Rattle.std.proofs.lemmas.List.Elements.{Contains-get_or}
 use Rattle.ql_syntax.specs.StatementViews.{filters_of}
 use Rattle.ref_sets.specs.NamedSets.{lists_of}
-use Rattle.ql_eval.specs.internal.Links.{AreThere, IsObjectAsk}
+use Rattle.ql_eval.specs.internal.Links.{AreThere, IsLineAsk}
 use Rattle.ql_eval.proofs.LinkLemmas.{set_of_added}
 use Rattle.ql_eval.proofs.LoopLemmas.{gone_all, gone_next, gone_stops, gone_same}
 use Rattle.ql_eval.proofs.PassingLemmas.{PassedWell}
@@ -24,7 +24,7 @@ returns-in_err-add_passing-clause-answer g c = λ p is under there.
     let rest = filters_of c.args.before.now ++ filters_of c.args.after.now in
     let are = subst (λ (l : List Ref). AreThere p.objects l) (sym c.as_slice-names.ensures.value) there in
     subst (λ (l : List Ref). PassedWell p env rest l (g.W.Source.under c.add_passing.new.source p) (uses (g.W.Source.holds c.add_passing.new.source) (g.W.Source.used c.args.source.now) (g.W.Source.used c.add_passing.new.source)) c.from_residual.result) c.as_slice-names.ensures.value
-    (gone_stops p names (IsPassingAs p.objects env rest) IsObjectAsk c.loop-name.name-index _ c.loop-name-test.true (get_or_default names c.loop-name.name-index _ _ c.loop-name-test.true)
+    (gone_stops p names (IsPassingAs p.objects env rest) (IsLineAsk p) c.loop-name.name-index _ c.loop-name-test.true (get_or_default names c.loop-name.name-index _ _ c.loop-name-test.true)
     _ c.from_residual.ensures.1 (λ x needs. needs) (λ x. g.met.W.Source.grows _ _ x c.add_passing.ensures.later) (c.loop-name.invariant.answer p is under are)
     (λ under_now. c.in_err-add_passing.ensures.answer p is under_now (are _ (Contains-get_or names c.loop-name.name-index _ c.loop-name-test.true))))
 
@@ -37,7 +37,7 @@ loop-name-preserved g c =
       there = known_more IsKnownThere there_later _ _ names c.loop-name.name-index _ c.loop-name-test.true (λ r o. g.met.W.Source.same_known _ _ r o c.add_passing.ensures.later) c.loop-name.invariant.there c.in_ok-add_passing.ensures.there;
       named = c.in_ok-add_passing.ensures.named;
       answer = λ p is under there.
-          gone_next p names (IsPassingAs p.objects (lists_of c.args.sets.now.named.items) (filters_of c.args.before.now ++ filters_of c.args.after.now)) IsObjectAsk
+          gone_next p names (IsPassingAs p.objects (lists_of c.args.sets.now.named.items) (filters_of c.args.before.now ++ filters_of c.args.after.now)) (IsLineAsk p)
           c.loop-name.name-index _ c.loop-name-test.true (get_or_default names c.loop-name.name-index _ _ c.loop-name-test.true)
           (λ x. g.met.W.Source.grows _ _ x c.add_passing.ensures.later) (c.loop-name.invariant.answer p is under there)
           (λ under_now. c.in_ok-add_passing.ensures.answer p is under_now (there _ (Contains-get_or names c.loop-name.name-index _ c.loop-name-test.true)));
@@ -50,7 +50,7 @@ returns-clause-answer g c = λ p is under there.
     let rest = filters_of c.args.before.now ++ filters_of c.args.after.now in
     let are = subst (λ (l : List Ref). AreThere p.objects l) (sym c.as_slice-names.ensures.value) there in
     subst (λ (l : List Ref). PassedWell p env rest l (g.W.Source.under c.loop-name.source p) (uses (g.W.Source.holds c.loop-name.source) (g.W.Source.used c.args.source.now) (g.W.Source.used c.loop-name.source)) (Ok c.from_refs.result)) c.as_slice-names.ensures.value
-    (gone_all p names (IsPassingAs p.objects env rest) IsObjectAsk c.loop-name.name-index c.loop-name-test.false (λ x needs. needs) (λ x needs. needs) (λ so. set_of_added so c.from_refs.ensures) (c.loop-name.invariant.answer p is under are))
+    (gone_all p names (IsPassingAs p.objects env rest) (IsLineAsk p) c.loop-name.name-index c.loop-name-test.false (λ x needs. needs) (λ x needs. needs) (λ so. set_of_added so c.from_refs.ensures) (c.loop-name.invariant.answer p is under are))
 
 pub returns-clause-there : goal.returns-clause-there
 returns-clause-there g c =
@@ -62,7 +62,7 @@ loop-name-init g c = record {
   walked = c.announce_all.ensures.walked;
   there = λ r among. absurd (none r among);
   named = none_given _ _ c.new-refs.ensures.items;
-  answer = λ p is under there. rw c.new-refs.ensures.items (gone_same p c.as_slice-names.result.now (IsPassingAs p.objects (lists_of c.args.sets.now.named.items) (filters_of c.args.before.now ++ filters_of c.args.after.now)) IsObjectAsk c.announce_all.ensures.used (c.announce_all.ensures.truly p is under));
+  answer = λ p is under there. rw c.new-refs.ensures.items (gone_same p c.as_slice-names.result.now (IsPassingAs p.objects (lists_of c.args.sets.now.named.items) (filters_of c.args.before.now ++ filters_of c.args.after.now)) (IsLineAsk p) c.announce_all.ensures.used (c.announce_all.ensures.truly p is under));
 }
 
 pub add_passing-requires-clause-name_named : goal.add_passing-requires-clause-name_named

@@ -22,6 +22,6 @@ invariant-loop-filter g l = record {
   named : AllGiven (g.W.Source.gave l.source) l.left;
   answer : (p : Publication) → IsPublication p → g.W.Source.under l.fn.source p → AreAllThere p.objects (lists_of l.sets.named.items)
       → Outcome cause_of_evaluation (λ (_ : Unit {0}). IsSetOf l.left (λ r. Contains l.fn.refs r × IsNamedByAll p.objects (lists_of l.sets.named.items) (filters_of (take l.filter-index l.filters)) r) × g.W.Source.under l.source p)
-      (NeededBy p (From (take l.filter-index l.filters) (λ f. AskedByRest (lists_of l.sets.named.items) (filter_of f))))
+      (NeededBy p (From (take l.filter-index l.filters) (λ f. AskedByRest p (lists_of l.sets.named.items) (filter_of f))))
       (uses (g.W.Source.holds l.source) (g.W.Source.used l.fn.source) (g.W.Source.used l.source)) (Ok tt);
 }

@@ -6,7 +6,6 @@ use Rattle.tree_node.specs.declared.tree.Tree.TheVariants.{Objects}
 use Rattle.tree_node.proofs.shared.OutcomeLaws.{outcome_stops, uses}
 use Rattle.tree_walk.specs.Choices.{AreThose}
 use Rattle.tree_walk.specs.Walks.{IsEntryIn}
-use Rattle.osm_keys.proofs.shared.RangeLaws.{object_is_found}
 use Rattle.ql_eval.specs.Questions.{Listed, NeedsAsk}
 use Rattle.ql_eval.specs.internal.Entries.{AreMisread, IsFoundAs, IsPutBy}
 use Rattle.ql_eval.proofs.ObjectLemmas.{object_read}
@@ -16,6 +15,7 @@ use Rattle.ql_eval.specs.Forms.{HaveForm}
 use Rattle.ql_eval.specs.internal.TrueFaults.{IsTrueUnder}
 use Rattle.ql_eval.proofs.AbsenceLemmas.{walk_looked, walk_put}
 use Rattle.ql_eval.proofs.StepLemmas.{refused_as, then_read, walk_cause}
+use Rattle.ql_eval.proofs.WholeLemmas.{whole_object_found}
 use Rattle.ql_eval.proofs.WalkLemmas.{none_given, read_told, walk_told}
 use Rattle.ql_eval.proofs.known.find_object.Goals as goal
 
@@ -33,7 +33,7 @@ returns-clause-answer g c = λ p is under.
     (λ x needs. subst (λ (key : List ℕ). NeedsAsk p (Listed Objects (record { lo = key; hi = key; under = false })) x) (sym c.reference_key-key.ensures) needs)
     (λ those.
     let found : IsFoundAs p.objects c.args.name (bindings_of c.in_ok-found.found.items) =
-    object_is_found p is c.args.name fits (bindings_of c.in_ok-found.found.items)
+    whole_object_found p is (bindings_of c.in_ok-found.found.items) c.args.name fits
     (subst (λ (key : List ℕ). AreThose (IsEntryIn (record { lo = key; hi = key; under = false })) (p.entries Objects) (bindings_of c.in_ok-found.found.items)) c.reference_key-key.ensures those) in
     object_read p.objects c.args.name (bindings_of c.in_ok-found.found.items) c.last_object.result is.set found
     (subst (λ (all : List Item). IfOk c.last_object.result (IsPutBy (bindings_of all))) c.deref.ensures.value c.last_object.ensures.put)

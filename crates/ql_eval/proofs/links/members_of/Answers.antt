@@ -12,7 +12,7 @@ use Rattle.ql_eval.proofs.links.members_of.Goals as goal
 
 pub returns-in_err-add_listed-clause-answer : goal.returns-in_err-add_listed-clause-answer
 returns-in_err-add_listed-clause-answer g c = λ p is under there.
-    gone_stops p c.args.names.now (IsListedOf p.objects) IsParentAsk c.loop-name.name-index _ c.loop-name-test.true (get_or_default c.args.names.now c.loop-name.name-index _ _ c.loop-name-test.true)
+    gone_stops p c.args.names.now (IsListedOf p.objects) (IsParentAsk p) c.loop-name.name-index _ c.loop-name-test.true (get_or_default c.args.names.now c.loop-name.name-index _ _ c.loop-name-test.true)
     _ c.from_residual.ensures.1 (λ x needs. needs) (λ x. g.met.W.Source.grows _ _ x c.add_listed.ensures.later)
     (c.loop-name.invariant.answer p is under there) (λ under_now. c.in_err-add_listed.ensures.answer p is under_now (there _ (Contains-get_or c.args.names.now c.loop-name.name-index _ c.loop-name-test.true)))
 
@@ -23,13 +23,13 @@ loop-name-preserved g c = record {
   listed = c.in_ok-add_listed.ensures.listed;
   there = known_more IsKnownParent parent_later _ _ c.args.names.now c.loop-name.name-index _ c.loop-name-test.true (λ r o. g.met.W.Source.same_known _ _ r o c.add_listed.ensures.later) c.loop-name.invariant.there c.in_ok-add_listed.ensures.there;
   answer = λ p is under there.
-      gone_next p c.args.names.now (IsListedOf p.objects) IsParentAsk c.loop-name.name-index _ c.loop-name-test.true (get_or_default c.args.names.now c.loop-name.name-index _ _ c.loop-name-test.true)
+      gone_next p c.args.names.now (IsListedOf p.objects) (IsParentAsk p) c.loop-name.name-index _ c.loop-name-test.true (get_or_default c.args.names.now c.loop-name.name-index _ _ c.loop-name-test.true)
       (λ x. g.met.W.Source.grows _ _ x c.add_listed.ensures.later) (c.loop-name.invariant.answer p is under there) (λ under_now. c.in_ok-add_listed.ensures.answer p is under_now (there _ (Contains-get_or c.args.names.now c.loop-name.name-index _ c.loop-name-test.true)));
 }
 
 pub returns-clause-answer : goal.returns-clause-answer
 returns-clause-answer g c = λ p is under there.
-    gone_all p c.args.names.now (IsListedOf p.objects) IsParentAsk c.loop-name.name-index c.loop-name-test.false (λ x needs. needs) (λ x needs. needs)
+    gone_all p c.args.names.now (IsListedOf p.objects) (IsParentAsk p) c.loop-name.name-index c.loop-name-test.false (λ x needs. needs) (λ x needs. needs)
     (λ so. set_of_added so c.from_refs.ensures) (c.loop-name.invariant.answer p is under there)
 
 pub returns-clause-there : goal.returns-clause-there

@@ -14,5 +14,5 @@ invariant-loop-name g l = record {
   listed : AllGiven (g.W.Source.may_be_absent l.source) l.listed.items;
   there : AreKnownParents (g.W.Source.knows l.source) (take l.name-index l.names);
   answer : (p : Publication) → IsPublication p → g.W.Source.under l.fn.source p → AreThere p.objects l.names
-      → HasGone p l.names (IsListedOf p.objects) IsParentAsk (g.W.Source.under l.source p) l.name-index [] l.listed.items (uses (g.W.Source.holds l.source) (g.W.Source.used l.fn.source) (g.W.Source.used l.source));
+      → HasGone p l.names (IsListedOf p.objects) (IsParentAsk p) (g.W.Source.under l.source p) l.name-index [] l.listed.items (uses (g.W.Source.holds l.source) (g.W.Source.used l.fn.source) (g.W.Source.used l.source));
 }

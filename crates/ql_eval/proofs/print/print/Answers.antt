@@ -8,7 +8,7 @@ use Rattle.osm_forms.specs.Forms.{form_text}
 use Rattle.ql_meaning.specs.Meanings.{cut, printed_of_by}
 use Rattle.ql_eval.specs.Asks.{AskedByOut}
 use Rattle.ql_eval.specs.Written.{HasWritten}
-use Rattle.ql_eval.specs.internal.Links.{AreThere, IsObjectAsk}
+use Rattle.ql_eval.specs.internal.Links.{AreThere, IsLineAsk}
 use Rattle.ql_eval.proofs.EachLemmas.{needed_as}
 use Rattle.ql_eval.specs.internal.Printing.{lines_at, name_lines}
 use Rattle.ql_eval.proofs.PrintLemmas.{asks_out, cut_there, out_asks, printed_names, printed_objects}
@@ -30,7 +30,7 @@ returns-then-eq-clause-answer g c = λ p is under there.
     let text : name_lines c.args.form c.first_of-first.result.now ≡ printed_of_by (form_text c.args.form) p.objects refs c.args.mode limit =
     ap (name_lines c.args.form) first ∙ printed_names c.args.form p.objects refs limit is.set c.as_slice.ensures.rising there ∙ ap (λ (m : OutMode). printed_of_by (form_text c.args.form) p.objects refs m limit) (sym ids) in
     outcome_starts (subst (λ (bytes : List ℕ). HasWritten (g.T.Sink.stands c.args.sink.now) (g.T.Sink.stands c.print_names.new.sink) bytes) text c.in_ok-print_names.ensures.written, under)
-    (λ x needs. subst (λ (m : OutMode). AskedByOut refs m limit needs.ask) ids needs.asked)
+    (λ x needs. subst (λ (m : OutMode). AskedByOut p refs m limit needs.ask) ids needs.asked)
 
 pub returns-clause-answer : goal.returns-clause-answer
 returns-clause-answer g c = λ p is under there.
@@ -41,8 +41,8 @@ returns-clause-answer g c = λ p is under there.
     let other : mode ≢ modes.Ids = search rules in
     let text : lines_at c.args.form p.objects mode c.first_of-first.result.now ≡ printed_of_by (form_text c.args.form) p.objects refs mode limit = ap (lines_at c.args.form p.objects mode) first ∙ printed_objects c.args.form p.objects refs mode limit is.set c.as_slice.ensures.rising there in
     truly_same
-    (needed_as (λ ask asked. asks_out refs mode limit other ask (subst (λ (rs : List Ref). From rs IsObjectAsk ask) first asked)))
-    (λ value so. needed_as (λ ask asked. subst (λ (rs : List Ref). From rs IsObjectAsk ask) (sym first) (out_asks refs mode limit other ask asked)))
+    (needed_as (λ ask asked. asks_out p refs mode limit other ask (subst (λ (rs : List Ref). From rs (IsLineAsk p) ask) first asked)))
+    (λ value so. needed_as (λ ask asked. subst (λ (rs : List Ref). From rs (IsLineAsk p) ask) (sym first) (out_asks p refs mode limit other ask asked)))
     (λ value so. subst (λ (bytes : List ℕ). HasWritten (g.T.Sink.stands c.args.sink.now) (g.T.Sink.stands c.print_objects.new.sink) bytes) text so)
     (c.print_objects.ensures.answer p is under (subst (λ (rs : List Ref). AreThere p.objects rs) (sym first) (cut_there p.objects limit refs there)))
 

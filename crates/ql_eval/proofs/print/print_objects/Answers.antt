@@ -4,7 +4,7 @@ use Rattle.osm_model.specs.declared.reference.Ref.{Ref}
 use Rattle.ql_eval.specs.internal.Objects.{AreKnownThere, IsKnownThere}
 use Rattle.ql_eval.proofs.KnownLemmas.{known_more, there_later}
 use Rattle.std.proofs.lemmas.List.Elements.{Contains-get_or}
-use Rattle.ql_eval.specs.internal.Links.{IsObjectAsk}
+use Rattle.ql_eval.specs.internal.Links.{IsLineAsk}
 use Rattle.ql_eval.specs.internal.Printing.{line_at, lines_at}
 use Rattle.ref_sets.proofs.shared.Adding.{none}
 use Rattle.ql_eval.proofs.PrintLemmas.{printed_all, printed_next, printed_same, printed_stops}
@@ -18,7 +18,7 @@ returns-in_err-print_object-clause-wrote g c = (c.loop-name.invariant.wrote.0 ++
 
 pub returns-in_err-print_object-clause-answer : goal.returns-in_err-print_object-clause-answer
 returns-in_err-print_object-clause-answer g c = λ p is under there.
-    printed_stops p c.args.names.now IsObjectAsk (line_at c.args.form p.objects c.args.mode) c.loop-name.name-index _ c.loop-name-test.true (get_or_default c.args.names.now c.loop-name.name-index _ _ c.loop-name-test.true)
+    printed_stops p c.args.names.now (IsLineAsk p) (line_at c.args.form p.objects c.args.mode) c.loop-name.name-index _ c.loop-name-test.true (get_or_default c.args.names.now c.loop-name.name-index _ _ c.loop-name-test.true)
     _ c.from_residual.ensures.1 (λ x. g.met.W.Source.grows _ _ x c.print_object.ensures.later)
     (c.loop-name.invariant.answer p is under there) (λ under_now. c.in_err-print_object.ensures.answer p is under_now (there _ (Contains-get_or c.args.names.now c.loop-name.name-index _ c.loop-name-test.true)))
 
@@ -29,7 +29,7 @@ loop-name-init g c = record {
   kept = refl;
   wrote = ([], written_none);
   there = λ r among. absurd (none r among);
-  answer = λ p is under there. printed_same p c.args.names.now IsObjectAsk (line_at c.args.form p.objects c.args.mode) c.announce_all.ensures.used (c.announce_all.ensures.truly p is under);
+  answer = λ p is under there. printed_same p c.args.names.now (IsLineAsk p) (line_at c.args.form p.objects c.args.mode) c.announce_all.ensures.used (c.announce_all.ensures.truly p is under);
   counted = λ p is under there clear. none_counted c.args.meter.now.spent;
 }
 
@@ -41,7 +41,7 @@ loop-name-preserved g c = record {
   wrote = (c.loop-name.invariant.wrote.0 ++ c.print_object.ensures.wrote.0, written_then c.loop-name.invariant.wrote.1 c.print_object.ensures.wrote.1);
   there = known_more IsKnownThere there_later _ _ c.args.names.now c.loop-name.name-index _ c.loop-name-test.true (λ r o. g.met.W.Source.same_known _ _ r o c.print_object.ensures.later) c.loop-name.invariant.there c.in_ok-print_object.ensures.there;
   answer = λ p is under there.
-      printed_next p c.args.names.now IsObjectAsk (line_at c.args.form p.objects c.args.mode) c.loop-name.name-index _ c.loop-name-test.true (get_or_default c.args.names.now c.loop-name.name-index _ _ c.loop-name-test.true)
+      printed_next p c.args.names.now (IsLineAsk p) (line_at c.args.form p.objects c.args.mode) c.loop-name.name-index _ c.loop-name-test.true (get_or_default c.args.names.now c.loop-name.name-index _ _ c.loop-name-test.true)
       (λ x. g.met.W.Source.grows _ _ x c.print_object.ensures.later) (c.loop-name.invariant.answer p is under there) (λ under_now. c.in_ok-print_object.ensures.answer p is under_now (there _ (Contains-get_or c.args.names.now c.loop-name.name-index _ c.loop-name-test.true)));
   counted = λ p is under there clear.
       let early = clear_before (λ x. g.met.W.Source.grows _ _ x c.print_object.ensures.later) clear in
@@ -53,7 +53,7 @@ loop-name-preserved g c = record {
 
 pub returns-clause-answer : goal.returns-clause-answer
 returns-clause-answer g c = λ p is under there.
-    printed_all p c.args.names.now IsObjectAsk (line_at c.args.form p.objects c.args.mode) c.loop-name.name-index c.loop-name-test.false (c.loop-name.invariant.answer p is under there)
+    printed_all p c.args.names.now (IsLineAsk p) (line_at c.args.form p.objects c.args.mode) c.loop-name.name-index c.loop-name-test.false (c.loop-name.invariant.answer p is under there)
 
 pub returns-clause-there : goal.returns-clause-there
 returns-clause-there g c = subst (λ (names : List Ref). AreKnownThere (g.W.Source.knows c.loop-name.source) names) (take_all _ _ c.loop-name-test.false) c.loop-name.invariant.there

@@ -69,7 +69,7 @@ returns-in_err-recurse g c =
       told = refused_as _ end.result _ end.ensures.1 c.in_err-recurse.ensures.told;
       named = no_value end.result _ _ end.ensures.1;
       answer = λ p is under there.
-          outcome_stops _ end.ensures.1 refl (λ x needs. subst (λ (l : List Ref). NeededBy p (AskedByRecursion p.objects c.args.how l) x) c.deref-2.ensures needs)
+          outcome_stops _ end.ensures.1 refl (λ x needs. subst (λ (l : List Ref). NeededBy p (AskedByRecursion p c.args.how l) x) c.deref-2.ensures needs)
           (c.in_err-recurse.ensures.answer p is under (subst (λ (l : List Ref). AreThere p.objects l) (sym c.deref-2.ensures) there));
       bounded = λ p is under there clear.
           subst (λ (l : List Ref). IsBounded (OfSet (IsRefOf p.objects (IsReached p.objects c.args.how l)) (λ found. Steps (length found))) c.args.meter.now.spent c.recurse.new.meter.spent) c.deref-2.ensures

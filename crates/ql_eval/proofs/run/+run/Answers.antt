@@ -189,7 +189,7 @@ run-returns-in_err-refs-in-Recurse g t c =
           let env = lists_of c.args.sets.now.named.items in
           let set = c.in_ok-set-in-Recurse.ensures ∙ ap env c.as_bytes-in-Recurse.ensures in
           outcome_stops _ end.ensures.1 refl
-          (λ x needs. needs_as (ap statement_of c.in-Recurse.is) p env x (subst (λ (l : List Ref). NeededBy p (AskedByRecursion p.objects c.in-Recurse.how l) x) set needs))
+          (λ x needs. needs_as (ap statement_of c.in-Recurse.is) p env x (subst (λ (l : List Ref). NeededBy p (AskedByRecursion p c.in-Recurse.how l) x) set needs))
           (c.in_err-refs-in-Recurse.ensures.answer p is under (subst (λ (l : List Ref). AreThere p.objects l) (sym set) (there c.in-Recurse.«from»)));
       in_row = λ tell p is under known there can clear.
           let env = lists_of c.args.sets.now.named.items in
@@ -246,8 +246,8 @@ run-returns-in_ok-write_shared-in-Recurse-clause-answer g t c = λ p is under kn
     let how = c.in-Recurse.how in
     let refs = c.in_ok-refs-in-Recurse.refs.value in
     let set = c.in_ok-set-in-Recurse.ensures ∙ ap env c.as_bytes-in-Recurse.ensures in
-    truly_as (λ x needs. needs_as same p env x (subst (λ (l : List Ref). NeededBy p (AskedByRecursion p.objects how l) x) set needs))
-    (λ so x needs. subst (λ (l : List Ref). NeededBy p (AskedByRecursion p.objects how l) x) (sym set) (as_needs same p env x needs))
+    truly_as (λ x needs. needs_as same p env x (subst (λ (l : List Ref). NeededBy p (AskedByRecursion p how l) x) set needs))
+    (λ so x needs. subst (λ (l : List Ref). NeededBy p (AskedByRecursion p how l) x) (sym set) (as_needs same p env x needs))
     (λ so. (
       after_as same p.objects _ _ (
         refs,

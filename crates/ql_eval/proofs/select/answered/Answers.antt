@@ -61,7 +61,7 @@ returns-in_err-found g c =
           let plan = c.args.plan.now in
           let allowed = subst (λ (b : Option Filter). ForSome b (Allows c.args.pick)) (sym c.base.ensures) (base_lawful c.args.pick plan.before plan.base plan.after lawful) in
           outcome_stops _ end.ensures.1 refl
-          (λ x needs. base_asks p env c.args.pick plan x (subst (λ (b : Option Filter). NeededBy p (AskedByBase p.objects env (kind_picked c.args.pick) b) x) c.base.ensures needs))
+          (λ x needs. base_asks p env c.args.pick plan x (subst (λ (b : Option Filter). NeededBy p (AskedByBase p env (kind_picked c.args.pick) b) x) c.base.ensures needs))
           (c.in_err-found.ensures.answer p is under there allowed);
       bounded = λ p is under there lawful clear.
           let plan = c.args.plan.now in
@@ -89,7 +89,7 @@ returns-in_err-charge_each g c =
           let all : length c.as_slice.result.now * (1 + length c.before-front.result.now + length c.after-back.result.now) ≡ length found * (1 + length (plan.before ++ plan.after)) =
           tested c.before-front.result.now c.after-back.result.now plan.before plan.after c.as_slice.result.now found c.as_slice.ensures.value c.before-front.ensures c.after-back.ensures in
           let counted = subst (λ (n : ℕ). IsCounted c.find_candidates.new.meter.spent c.charge_each.new.self.spent (step_cost * n)) all c.charge_each.ensures in
-          let based = subst (λ (b : Option Filter). IsBounded (WorkOfBase p.objects b) c.args.meter.now.spent c.find_candidates.new.meter.spent) c.base.ensures (c.in_ok-found.ensures.read p is under there allowed clear) in
+          let based = subst (λ (b : Option Filter). IsBounded (WorkOfBase p b) c.args.meter.now.spent c.find_candidates.new.meter.spent) c.base.ensures (c.in_ok-found.ensures.read p is under there allowed clear) in
           both_bounded _ _ _ based (set_bounded _ _ found are.0 (steps_bounded (length found * (1 + length (plan.before ++ plan.after))) _ _ counted));
       spent = no_value end.result _ _ end.ensures.1;
     }
@@ -141,7 +141,7 @@ returns-clause-bounded g c = λ p is under there lawful clear.
     let all : length c.as_slice.result.now * (1 + length c.before-front.result.now + length c.after-back.result.now) ≡ length found * (1 + length (plan.before ++ plan.after)) =
     tested c.before-front.result.now c.after-back.result.now plan.before plan.after c.as_slice.result.now found c.as_slice.ensures.value c.before-front.ensures c.after-back.ensures in
     let counted = subst (λ (n : ℕ). IsCounted c.find_candidates.new.meter.spent c.charge_each.new.self.spent (step_cost * n)) all c.charge_each.ensures in
-    let based = subst (λ (b : Option Filter). IsBounded (WorkOfBase p.objects b) c.args.meter.now.spent c.find_candidates.new.meter.spent) c.base.ensures (c.in_ok-found.ensures.read p is under there allowed (clear_before (λ x. g.met.W.Source.grows _ _ x c.apply_filters.ensures.later) clear)) in
+    let based = subst (λ (b : Option Filter). IsBounded (WorkOfBase p b) c.args.meter.now.spent c.find_candidates.new.meter.spent) c.base.ensures (c.in_ok-found.ensures.read p is under there allowed (clear_before (λ x. g.met.W.Source.grows _ _ x c.apply_filters.ensures.later) clear)) in
     both_bounded _ _ _ based (set_bounded _ _ found are.0 (steps_bounded (length found * (1 + length (plan.before ++ plan.after))) _ _ counted))
 
 pub returns-clause-spent : goal.returns-clause-spent
@@ -156,5 +156,5 @@ returns-clause-spent g c = on_ok_as c.apply_filters.result (λ walked p is under
     let all : length c.as_slice.result.now * (1 + length c.before-front.result.now + length c.after-back.result.now) ≡ length found * (1 + length (plan.before ++ plan.after)) =
     tested c.before-front.result.now c.after-back.result.now plan.before plan.after c.as_slice.result.now found c.as_slice.ensures.value c.before-front.ensures c.after-back.ensures in
     let counted = subst (λ (n : ℕ). IsCounted c.find_candidates.new.meter.spent c.charge_each.new.self.spent (step_cost * n)) all c.charge_each.ensures in
-    let based = subst (λ (b : Option Filter). IsSpent (WorkOfBase p.objects b) c.args.meter.now.spent c.find_candidates.new.meter.spent) c.base.ensures (c.in_ok-found.ensures.spent p is under there allowed (clear_before (λ x. g.met.W.Source.grows _ _ x c.apply_filters.ensures.later) clear)) in
+    let based = subst (λ (b : Option Filter). IsSpent (WorkOfBase p b) c.args.meter.now.spent c.find_candidates.new.meter.spent) c.base.ensures (c.in_ok-found.ensures.spent p is under there allowed (clear_before (λ x. g.met.W.Source.grows _ _ x c.apply_filters.ensures.later) clear)) in
     both_spent _ _ _ based (set_spent _ _ found are.0 (steps_spent (length found * (1 + length (plan.before ++ plan.after))) _ _ counted))) c.apply_filters.ensures.walked

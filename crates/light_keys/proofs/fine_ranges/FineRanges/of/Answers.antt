@@ -1,5 +1,5 @@
 use Rattle.std.proofs.Common.{inl, inr, refl, subst, sym}
-use Rattle.light_keys.specs.FineRanges.{AreFineColumns}
+use Rattle.osm_keys.specs.FineRanges.{AreFineColumns}
 use Rattle.light_keys.specs.declared.fine_columns.FineColumns.{FineColumns}
 use Rattle.light_keys.specs.internal.FineCells.{columns_in, rows_in}
 use Rattle.light_keys.proofs.RangeSteps.{are_ranges, rows_kept}

@@ -1,7 +1,7 @@
 use Rattle.std.proofs.Common.{◌≡◌, [], ◌∷◌, ◌++◌, ◌+◌, ◌∙◌, ap, sym}
 use Rattle.std.specs.Option.{option_to_list}
 use Rattle.tree_walk.specs.Ranges.{Range}
-use Rattle.light_keys.specs.FineRanges.{fine_range}
+use Rattle.osm_keys.specs.FineRanges.{fine_range}
 use Rattle.light_keys.specs.internal.FineCells.{columns_in, ends_of}
 use Rattle.light_keys.proofs.RangeSteps.{left_over, moved, nothing_left, one_more, two_more}
 use Rattle.light_keys.proofs.fine_ranges.FineRangesIterator.next.Goals as goal

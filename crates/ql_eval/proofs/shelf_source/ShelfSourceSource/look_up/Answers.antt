@@ -5,6 +5,7 @@ use Rattle.ql_eval.specs.internal.Objects.{MayBeAbsentNow}
 use Rattle.osm_keys.specs.Manifests.{top_among}
 use Rattle.ql_eval.proofs.AbsenceLemmas.{looked_sound}
 use Rattle.ql_eval.proofs.GivenLemmas.{given_later}
+use Rattle.ql_eval.proofs.KnownLemmas.{object_is_line}
 use Rattle.ql_eval.proofs.RememberLemmas.{all_recalled_later}
 use Rattle.ql_eval.proofs.TruthLemmas.{truly_ends}
 use Rattle.ql_eval.proofs.shelf_source.ShelfSourceSource.look_up.Goals as goal
@@ -26,8 +27,8 @@ returns-clause-later g c = (
 
 pub returns-clause-answer : goal.returns-clause-answer
 returns-clause-answer g c = λ p is under.
-    truly_ends (under.0, c.look_up.ensures.remembers p under.0 under.1, all_recalled_later p _ _ c.args.self.now.memo.now.remembered.items c.look_up.ensures.grows under.2)
-    (c.look_up.ensures.answer p is under.0 under.1)
+    object_is_line p c.args.name (truly_ends (under.0, c.look_up.ensures.remembers p under.0 under.1, all_recalled_later p _ _ c.args.self.now.memo.now.remembered.items c.look_up.ensures.grows under.2)
+    (c.look_up.ensures.answer p is under.0 under.1))
 
 pub returns-clause-told : goal.returns-clause-told
 returns-clause-told g c = IfErr-weaker c.look_up.result _ _ (λ fault told absent kept. told) c.look_up.ensures.told

@@ -6,7 +6,7 @@ use Rattle.osm_model.specs.Boxes.{ExactBox}
 use Rattle.osm_model.specs.Edges.{IsGreater, IsCeiling, IsFloor}
 use Rattle.osm_model.specs.Places.{IsPlace}
 use Rattle.tree_walk.specs.Ranges.{Range}
-use Rattle.light_keys.specs.FineKeys.{fine_column, fine_corner, fine_row, last_fine_column}
+use Rattle.osm_keys.specs.FineKeys.{fine_column, fine_corner, fine_row, last_fine_column}
 
 -- the fine cells of a row from one column to another
 abbrev pub fine_range : ℕ → ℕ × ℕ → Range
