@@ -37,6 +37,7 @@ pub(crate) fn read_box<'a>(
 }
 
 /// The number after a comma.
+#[inline(always)]
 fn next_corner(text: &[u8]) -> Result<NumberSpot<'_>, SyntaxError<'_>>
     ensures follows { Keeps corner the_number text.now result }
     ensures spelled { IfOk result (λ spot. Spells spot.number.text.now (decimal_of spot.number)) }
@@ -46,6 +47,7 @@ fn next_corner(text: &[u8]) -> Result<NumberSpot<'_>, SyntaxError<'_>>
 }
 
 /// The box of these corners. `BadBox` at the first of them where they are none.
+#[inline(always)]
 fn area_of<'a>(
     south: NumberSpot<'a>,
     west: Number<'a>,
@@ -66,6 +68,7 @@ fn area_of<'a>(
 }
 
 /// The box of these corners.
+#[inline(always)]
 fn new_box<'a>(
     south: Number<'a>,
     west: Number<'a>,

@@ -4,14 +4,14 @@ ghost use Rattle.std.specs.Prelude.{◌≡◌, ◌++◌, ◌∷◌, [], IfOk};
 
 use std::alloc::{AllocError, Global};
 
-/// The list of this item alone.
+/// The list of this item alone, with room for so many items.
 #[inline(always)]
-pub(crate) fn list_of<T>(alloc: Global, item: T) -> Result<Vec<T>, AllocError>
+pub(crate) fn list_of<T>(alloc: Global, item: T, room: usize) -> Result<Vec<T>, AllocError>
 where
     T: Drop,
     ensures { IfOk result (λ list. list.items ≡ item ∷ []) }
 {
-    let mut list = Vec::with_capacity(alloc, 1)?;
+    let mut list = Vec::with_capacity(alloc, room)?;
     list.push(item).map_err(AllocError::from)?;
     Ok(list)
 }

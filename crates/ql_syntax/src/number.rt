@@ -45,6 +45,7 @@ struct Fraction<'a> {
 ///
 /// Where there is no digit, after a `-` or without one, it is `UnexpectedCharacter` at what
 /// comes instead, or `UnexpectedEnd` where the text ends. Linear; it takes no memory.
+#[inline(always)]
 pub(crate) fn split_number(text: &[u8]) -> Result<Number<'_>, SyntaxError<'_>>
     ensures read { IfOk result (λ number. IsNumberOf text.now number) }
     ensures refused { IfErr result (λ error. IsNoNumber text.now error.cause error.rest.now) }

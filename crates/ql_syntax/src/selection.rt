@@ -53,26 +53,35 @@ fn read_filters(
         let (other, rest) = read_filter(alloc, kind, place)?;
         place = rest;
         match other {
-            Some(filter) => filters = with_filter(alloc, filters, filter)?,
+            Some(filter) => filters = with_filter(alloc, filters, filter, place)?,
             None => return Ok((filters, place)),
         }
     }
 }
 
-/// The filters with this one after the others. Most statements have one filter, so that the first takes
-/// memory for itself alone.
+/// The filters with this one, which this rest follows, after the others.
 #[inline(always)]
 fn with_filter<'a>(
     alloc: Global,
     filters: Vec<Filter<'a>>,
     filter: Filter<'a>,
+    rest: &'a [u8],
 ) -> Result<Vec<Filter<'a>>, AllocError>
     ensures { IfOk result (λ more. more.items ≡ filters.entry.items ++ filter.entry ∷ []) }
 {
     if filters.is_empty() {
-        list_of(alloc, filter)
+        list_of(alloc, filter, room_before(rest))
     } else {
         appended(filters, filter)
+    }
+}
+
+/// For how many filters the first one, which this rest follows, makes room: for itself alone where the
+/// statement ends, as most do, and else for all that most statements have.
+fn room_before(rest: &[u8]) -> usize {
+    match rest {
+        [b';', ..] => 1,
+        _ => 3,
     }
 }
 

@@ -79,7 +79,7 @@ fn read_number_selector<'a>(
         TokenKind::Comma if pick.takes_boxes() => read_box(alloc, number, token.rest),
         TokenKind::Comma => Err(SyntaxError::at(QlCause::Unsupported, number.place)),
         TokenKind::CloseParenthesis => {
-            let ids = ids_of(alloc, number.id()?)?;
+            let ids = ids_of(alloc, number.id()?, 1)?;
             Ok((Filter::Ids(ids), token.rest))
         }
         _ => Err(token.unexpected()),
@@ -92,7 +92,7 @@ fn read_id_list(alloc: Global, text: &[u8]) -> Result<(Filter<'_>, &[u8]), Synta
 {
     let rest = pass(text, TokenKind::Colon)?;
     let (first, rest) = next_id(rest)?;
-    let (ids, rest) = read_ids_after(ids_of(alloc, first)?, rest)?;
+    let (ids, rest) = read_ids_after(ids_of(alloc, first, room_before(rest))?, rest)?;
     Ok((Filter::Ids(ids), rest))
 }
 
@@ -115,11 +115,20 @@ fn read_ids_after(
     }
 }
 
-/// The list of this id alone, which takes no memory.
-fn ids_of(alloc: Global, id: i64) -> Result<SmallVec<i64, 1>, AllocError>
+/// For how many ids the first one, which this rest follows, makes room: for itself alone, which takes no
+/// memory, or for some where a comma follows.
+fn room_before(rest: &[u8]) -> usize {
+    match rest {
+        [b',', ..] => 4,
+        _ => 1,
+    }
+}
+
+/// The list of this id alone, with room for so many ids. For one it takes no memory.
+fn ids_of(alloc: Global, id: i64, room: usize) -> Result<SmallVec<i64, 1>, AllocError>
     ensures { IfOk result (λ ids. ids.items ≡ id ∷ []) }
 {
-    with_id(SmallVec::new(alloc), id)
+    with_id(SmallVec::with_capacity(alloc, room)?, id)
 }
 
 /// The list with this id after the others.

@@ -2,7 +2,7 @@
 
 ghost use Rattle.std.specs.Prelude.{◌≡◌, ◌==◌};
 ghost use Rattle.ql_syntax.specs.Words.{begins_with};
-ghost use Rattle.ql_syntax.specs.TokenKinds.{token_kind_at, one_byte_kind, kind_after_minus, kind_after_not, punctuation_len};
+ghost use Rattle.ql_syntax.specs.TokenKinds.{token_kind_at, token_kind_from, one_byte_kind, kind_after_minus, kind_after_not, punctuation_len};
 
 use crate::word::is_word_start;
 
@@ -81,13 +81,26 @@ impl TokenKind {
 }
 
 /// What begins at this place of a text.
+///
+/// Most tokens are punctuation of one byte, so that is looked for first.
+#[inline(always)]
 pub(crate) fn token_kind_at(place: &[u8]) -> TokenKind
     ensures { result ≡ token_kind_at place.now }
 {
     let [first, after @ ..] = place else {
         return TokenKind::End;
     };
-    match *first {
+    match one_byte_kind(*first) {
+        TokenKind::Other => token_kind_from(*first, after),
+        kind => kind,
+    }
+}
+
+/// What begins with this byte before this rest.
+fn token_kind_from(first: u8, after: &[u8]) -> TokenKind
+    ensures { result ≡ token_kind_from first after.now }
+{
+    match first {
         byte if is_word_start(byte) => TokenKind::Word,
         b'0'..=b'9' => TokenKind::Number,
         b'"' | b'\'' => TokenKind::Quote,
@@ -134,6 +147,7 @@ fn begins_with(text: &[u8], byte: u8) -> bool
 }
 
 /// The punctuation that is this byte alone.
+#[inline(always)]
 fn one_byte_kind(byte: u8) -> TokenKind
     ensures { result ≡ one_byte_kind byte }
 {

@@ -62,6 +62,7 @@ impl<'a> NumberSpot<'a> {
 }
 
 /// What is left after this punctuation, which must come next.
+#[inline(always)]
 pub(crate) fn pass(text: &[u8], kind: TokenKind) -> Result<&[u8], SyntaxError<'_>>
     ensures { Keeps (pass kind) the_rest text.now result }
 {
@@ -85,6 +86,7 @@ pub(crate) fn next_word(text: &[u8]) -> Result<WordSpot<'_>, SyntaxError<'_>>
 }
 
 /// The word that begins with this token.
+#[inline(always)]
 pub(crate) fn word_at(token: Token<'_>) -> WordSpot<'_>
     ensures { Keeps (word_at (next_of token.entry)) the_word token.entry.rest.now (Ok result) }
 {
@@ -97,6 +99,7 @@ pub(crate) fn word_at(token: Token<'_>) -> WordSpot<'_>
 }
 
 /// The number that must come next.
+#[inline(always)]
 pub(crate) fn next_number(text: &[u8]) -> Result<NumberSpot<'_>, SyntaxError<'_>>
     ensures follows { Keeps a_number the_number text.now result }
     ensures spelled { IfOk result (λ spot. Spells spot.number.text.now (decimal_of spot.number)) }
@@ -110,6 +113,7 @@ pub(crate) fn next_number(text: &[u8]) -> Result<NumberSpot<'_>, SyntaxError<'_>
 }
 
 /// The number that begins with this token.
+#[inline(always)]
 pub(crate) fn number_at(token: Token<'_>) -> Result<NumberSpot<'_>, SyntaxError<'_>>
     ensures follows { Keeps (number_at (next_of token.entry)) the_number token.entry.rest.now result }
     ensures spelled { IfOk result (λ spot. Spells spot.number.text.now (decimal_of spot.number)) }
@@ -123,6 +127,7 @@ pub(crate) fn number_at(token: Token<'_>) -> Result<NumberSpot<'_>, SyntaxError<
 }
 
 /// The name of a set, which must come next.
+#[inline(always)]
 pub(crate) fn next_name(text: &[u8]) -> Result<(Name<'_>, &[u8]), SyntaxError<'_>>
     ensures { Keeps a_name the_bytes text.now result }
 {
@@ -134,6 +139,7 @@ pub(crate) fn next_name(text: &[u8]) -> Result<(Name<'_>, &[u8]), SyntaxError<'_
 }
 
 /// The name after its dot, which is this token.
+#[inline(always)]
 pub(crate) fn name_after(dot: Token<'_>) -> Result<(Name<'_>, &[u8]), SyntaxError<'_>>
     ensures { Keeps (name_after (next_of dot.entry)) the_bytes dot.entry.rest.now result }
 {
@@ -142,6 +148,7 @@ pub(crate) fn name_after(dot: Token<'_>) -> Result<(Name<'_>, &[u8]), SyntaxErro
 }
 
 /// The set that a statement writes to, and its end: `->` and a name, or nothing, and `;`.
+#[inline(always)]
 pub(crate) fn read_into(text: &[u8]) -> Result<(Name<'_>, &[u8]), SyntaxError<'_>>
     ensures { Keeps into the_bytes text.now result }
 {
