@@ -34,7 +34,7 @@ pub record IsPublicationOf (objects : List Element) (edition : Edition) (p : Pub
   pub same_objects : p.objects ≡ objects
   pub same_edition : p.edition ≡ edition
 
--- a tree of these objects has more entries than a tree may have, as many wherever the lines are
+-- a tree of these objects has more entries than a tree may have
 abbrev pub HasTooMany : List Element → Type 0
 HasTooMany objects = (tree : Tree) × (entries : List Binding) × AreEntriesOf Whole objects tree entries × (ENTRY_LIMIT < length entries)
 
